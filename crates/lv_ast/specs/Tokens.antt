@@ -1,0 +1,2 @@
+-- The classes of tokens.
+use Rattle.std.specs.Prelude.{ℕ}

@@ -1,5 +1,5 @@
 -- The value at a width and a sign, by the kind of the operator.
-use Rattle.std.proofs.Common.{◌≡◌, ◌≢◌, ℕ, Bool, true, false, List, map, ap, ◌∙◌, arith}
+use Rattle.std.proofs.Common.{◌≡◌, ◌≢◌, ℕ, ◌%◌, ◌^◌, Bool, true, false, List, map, ap, ◌∙◌, arith}
 use Rattle.lv_bits.specs.declared.op.Op.{Op}
 use Rattle.lv_bits.specs.Values.{extended, is_apart, keeps_width, unary_value, binary_value}
 use Rattle.lv_ast.specs.declared.expr.Literal.{Literal}
@@ -32,7 +32,7 @@ module _ (names : Names) (W : ℕ) (T : Bool) (v : Valuation) where
   binary_compared : (op : Op) (m n : Meaning) → keeps_width op ≡ false → is_apart op ≡ false → (binary op m n).value W T v ≡ (compared op m n).value W T v
   binary_compared op m n h k = rw (h, k)
 
-  pub value-Lit : (l : Literal) → (read_expr names (e.Lit l)).meaning.value W T v ≡ extended T (size_of l.size) W l.value
+  pub value-Lit : (l : Literal) → (read_expr names (e.Lit l)).meaning.value W T v ≡ extended T (size_of l.size) W (l.value % 2 ^ size_of l.size)
   value-Lit l = ap (at W T v) (read-Lit names l)
 
   pub value-Un_kept : (op : Op) (a : Expr) → keeps_width op ≡ true →

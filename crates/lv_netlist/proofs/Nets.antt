@@ -58,6 +58,7 @@ width_kept old new k (Ext a width signed) s h r = refl
 pub node_kept : (old new : Net) (k : ℕ) (typed : Typed) → Keeps old new → k ≤ length old.nodes → IsNode old k typed → IsNode new k typed
 node_kept old new k typed s h n = record {
   right = right_kept old new k typed.node s h n.right;
+  word = n.word;
   same = n.same ∙ sym (width_kept old new k typed.node s h n.right);
   width = n.width;
 }
@@ -186,7 +187,7 @@ input_added old name w n new_name width =
     let new : Net = with_input old name w in
     let s : Keeps old new = keeps_input old name w in
     record {
-      nodes = at_end old.nodes t _ (IsNode new) (λ k lt. node_kept old new k _ s (omega arith) (n.nodes k lt)) (record { right = omega (arith, length-append {A = Port} old.inputs (p ∷ [])); same = sym (ap (λ (x : Port). x.1) (get_or-append_seam {A = Port} old.inputs p [] _)); width = width });
+      nodes = at_end old.nodes t _ (IsNode new) (λ k lt. node_kept old new k _ s (omega arith) (n.nodes k lt)) (record { right = omega (arith, length-append {A = Port} old.inputs (p ∷ [])); word = tt; same = sym (ap (λ (x : Port). x.1) (get_or-append_seam {A = Port} old.inputs p [] _)); width = width });
       inputs = at_end {A = Port} old.inputs p _ (λ (i : ℕ) (x : Port). IsWidth x.1) n.inputs width;
       registers = λ i lt. register_kept old new _ s (n.registers i lt);
       names = record {
@@ -205,7 +206,7 @@ register_added old name w n new_name width =
     let new : Net = with_register old name w in
     let s : Keeps old new = keeps_register old name w in
     record {
-      nodes = at_end old.nodes t _ (IsNode new) (λ k lt. node_kept old new k _ s (omega arith) (n.nodes k lt)) (record { right = omega (arith, length-append old.registers (p ∷ [])); same = sym (ap (λ (x : Held). x.1.width) (get_or-append_seam old.registers p [] _)); width = width });
+      nodes = at_end old.nodes t _ (IsNode new) (λ k lt. node_kept old new k _ s (omega arith) (n.nodes k lt)) (record { right = omega (arith, length-append old.registers (p ∷ [])); word = tt; same = sym (ap (λ (x : Held). x.1.width) (get_or-append_seam old.registers p [] _)); width = width });
       inputs = n.inputs;
       registers = at_end old.registers p _ (λ (i : ℕ) (x : Held). IsRegister new x.1) (λ i lt. register_kept old new _ s (n.registers i lt)) (record { width = width; next = λ m e. cc });
       names = record {

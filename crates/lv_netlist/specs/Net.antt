@@ -1,5 +1,5 @@
 -- A graph as contracts see it, and what its type keeps.
-use Rattle.std.specs.Prelude.{◌≡◌, ◌≢◌, ℕ, ◌+◌, ◌<◌, ◌≤◌, IsTrue, IsFalse, List, [], ◌∷◌, ◌++◌, length, slice_set, slice_index_or, Option, Some, None}
+use Rattle.std.specs.Prelude.{◌≡◌, ◌≢◌, ℕ, ◌+◌, ◌^◌, ◌<◌, ◌≤◌, IsTrue, IsFalse, List, [], ◌∷◌, ◌++◌, length, slice_set, slice_index_or, Option, Some, None}
 use Rattle.std.specs.List.{filter_map, range_with_len}
 use Rattle.lv_bits.specs.Values.{is_unary, is_apart, result_width}
 use Rattle.lv_netlist.specs.declared.node.Node.{Node}
@@ -84,8 +84,14 @@ pub record HasNames (net : Net) : Type 0 where
   pub registers : (i j : ℕ) → i < j → j < length net.registers → register_name net i ≢ register_name net j
   pub apart : (i j : ℕ) → i < length net.inputs → j < length net.registers → input_name net i ≢ register_name net j
 
+-- a constant is a word
+abbrev pub HoldsWord : Node → Type 0
+HoldsWord (Const w) = w.value < 2 ^ w.width
+HoldsWord _ = Unit {0}
+
 pub record IsNode (net : Net) (k : ℕ) (typed : Typed) : Type 0 where
   pub right : IsRight net k typed.node
+  pub word : HoldsWord typed.node
   pub same : typed.width ≡ node_width net typed.node
   pub width : IsWidth typed.width
 

@@ -1,6 +1,6 @@
 ghost use Rattle.std.specs.Prelude.{◌≡◌, ℕ, ◌+◌, ◌<◌, ◌≤◌, length, IsSome, IfSome, OnOk, OnErr, IfOk, IsFalse, ◌↔◌};
 ghost use Rattle.lv_bits.specs.Values.{result_width};
-ghost use Rattle.lv_netlist.specs.Net.{Net, IsNet, IsRight, IsInner, IsNew, IsWidth, HasNexts, node_at, width_at, input_name, input_width, register_at, register_name, node_width, register_of, no_nodes, with_node, with_input, with_register, with_next};
+ghost use Rattle.lv_netlist.specs.Net.{Net, IsNet, IsRight, IsInner, IsNew, IsWidth, HoldsWord, HasNexts, node_at, width_at, input_name, input_width, register_at, register_name, node_width, register_of, no_nodes, with_node, with_input, with_register, with_next};
 
 use crate::Graph;
 use crate::node::{Node, Register, Typed};
@@ -104,10 +104,14 @@ impl Builder {
         requires right { IsRight self.now (length self.now.nodes) node.now }
         ensures is { result ≡ node_width self.now node.now }
         ensures width { IsWidth result }
+        ensures word { HoldsWord node.now }
     {
         match *node {
             Node::Input(_) | Node::Reg(_) => unreachable!(),
-            Node::Const(word) => word.width(),
+            Node::Const(word) => {
+                let _ = word.value();
+                word.width()
+            }
             Node::Un(op, a) => self.op_width(op, a),
             Node::Bin(op, a, _, _) => self.op_width(op, a),
             Node::Mux(_, a, _) => self.width_at(a),

@@ -1,4 +1,10 @@
-ghost use Rattle.std.specs.Prelude.{◌≡◌, ℕ, ◌<◌, length, Some};
+ghost use Rattle.std.specs.Prelude.{◌≡◌, ℕ, ◌<◌, List, ◌∷◌, length, map, Some};
+ghost use Rattle.std.specs.List.{AllByRecursion};
+ghost use Rattle.lv_bits.specs.Words.{Bits};
+ghost use Rattle.lv_model.specs.Machine.{IsRun};
+ghost use Rattle.lv_model.specs.Design.{Observers};
+ghost use Rattle.lv_model.specs.Stepper.{unrolled};
+ghost use Rattle.lv_netlist.specs.Stepping.{GraphCycle, stepper_of, graph_machine};
 ghost use Rattle.lv_netlist.specs.Net.{Net, IsNet, IsNode, IsWidth, HasNexts, node_at, width_at, input_name, input_width, register_name, register_width, register_next};
 
 use crate::{Builder, Node};
@@ -43,6 +49,20 @@ impl Graph {
     {
         let Graph { builder } = self;
         builder
+    }
+
+    /// What a graph unrolls to from a state is a run of its machine, and each run is what it unrolls to. It does nothing: its contract is the law.
+    pub fn runs(&self)
+        ensures state { (s i : List Bits) →
+            (stepper_of self.now).IsState s → (stepper_of self.now).IsInput i → (stepper_of self.now).IsState ((stepper_of self.now).next s i) }
+        ensures run { (o : Observers GraphCycle) (s : List Bits) (inputs : List (List Bits)) →
+            (stepper_of self.now).IsState s → AllByRecursion (stepper_of self.now).IsInput inputs →
+            IsRun (graph_machine self.now o) (unrolled (stepper_of self.now) s inputs) }
+        ensures only { (o : Observers GraphCycle) (v : GraphCycle) (vs : List GraphCycle) →
+            IsRun (graph_machine self.now o) (v ∷ vs) →
+            v ∷ vs ≡ unrolled (stepper_of self.now) v.state (map (λ c. c.input) (v ∷ vs)) }
+    {
+        let _ = self.len();
     }
 
     /// The number of nodes.

@@ -8,6 +8,7 @@ invariant_of-self-2 c =
     let old : Net = record { nodes = c.self.inside.nodes.items; inputs = c.self.inside.inputs.entries; registers = c.self.inside.registers.entries } in
     let is : IsNode old (length old.nodes) (record { node = c.args.node; width = c.node_width-width.result }) = record {
       right = subst (λ (n : Net). IsRight n (length n.nodes) c.args.node) (sym c.self.view_is) c.requires.right;
+      word = c.node_width-width.ensures.word;
       same = c.node_width-width.ensures.is ∙ ap (λ (n : Net). node_width n c.args.node) (sym c.self.view_is);
       width = c.node_width-width.ensures.width;
     } in

@@ -81,7 +81,8 @@ module _ (net : Net) (state inputs : List Bits) (s : FitsState net state) (sw : 
           let e : length values ≡ j = omega (arith, length-append values (x ∷ [])) in
           subst (λ (i : ℕ). (bits_at (values ++ x ∷ []) i).value < 2 ^ (bits_at (values ++ x ∷ []) i).width) e
           (subst (λ (b : Bits). b.value < 2 ^ b.width) (sym (get_or-append_seam values x [] _)) is.1)
-    ])
+    ],
+  )
 
   module _ (n : IsNet net) where
     first : (k : ℕ) → k ≤ length net.nodes → FitsNodes net k (values_from state inputs [] (take k net.nodes)) × AreWords (values_from state inputs [] (take k net.nodes))
@@ -96,9 +97,10 @@ module _ (net : Net) (state inputs : List Bits) (s : FitsState net state) (sw : 
         let e : take (suc k) net.nodes ≡ take k net.nodes ++ t ∷ [] = take-suc net.nodes k _ (omega arith) in
         let e' : k + 1 ≡ suc k = omega arith in
         let all : values_from state inputs [] (take (suc k) net.nodes) ≡ before ++ node_bits state inputs before t.node ∷ [] =
-        ap (values_from state inputs []) e ∙ values_from-snoc state inputs [] (take k net.nodes) t in
-        (subst (λ (l : List Bits). FitsNodes net (suc k) l) (sym all) (subst (λ (m : ℕ). FitsNodes net m (before ++ node_bits state inputs before t.node ∷ [])) e' more.0),
-         subst AreWords (sym all) more.1)
+        ap (values_from state inputs []) e ∙ values_from-snoc state inputs [] (take k net.nodes) t in (
+          subst (λ (l : List Bits). FitsNodes net (suc k) l) (sym all) (subst (λ (m : ℕ). FitsNodes net m (before ++ node_bits state inputs before t.node ∷ [])) e' more.0),
+          subst AreWords (sym all) more.1,
+        )
 
     -- each node has a word of its width
     pub values_fit : FitsNodes net (length net.nodes) (values_of net state inputs) × AreWords (values_of net state inputs)

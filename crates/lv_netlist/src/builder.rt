@@ -14,7 +14,7 @@ use std::marker::Model;
 pub struct Builder {
     nodes: Vec<Typed>,
     inputs: IndexMap<Text, u32>,
-    registers: IndexMap<Text, Register>,
+    pub(crate) registers: IndexMap<Text, Register>,
 }
 
 impl Model for Builder {

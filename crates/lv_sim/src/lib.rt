@@ -4,6 +4,8 @@
 mod node;
 mod sim;
 mod task;
+#[cfg(test)]
+mod tests;
 
 pub use sim::Sim;
 pub use task::SimTask;

@@ -218,11 +218,12 @@ fn built(alloc: Global, steps: &[Step]) -> Result<Graph, Fail> {
     Ok(graph)
 }
 
-/// The first values as the words of the registers.
+/// The words of the registers with these values, or 0 past their end.
 fn state_of(alloc: Global, graph: &Graph, values: &[u128]) -> Result<Vec<Word>, Fail> {
     let mut words = Vec::new(alloc);
-    for (k, value) in (0..graph.registers()).zip(values) {
-        let Some(word) = word(graph.register_width(k), *value) else {
+    for k in 0..graph.registers() {
+        let value = values.get(k as usize).copied().unwrap_or(0);
+        let Some(word) = word(graph.register_width(k), value) else {
             return Err(Fail::from("no such word"));
         };
         words.push(word)?;
@@ -230,11 +231,12 @@ fn state_of(alloc: Global, graph: &Graph, values: &[u128]) -> Result<Vec<Word>, 
     Ok(words)
 }
 
-/// The first values as the words of the inputs.
+/// The words of the inputs with these values, or 0 past their end.
 fn inputs_of(alloc: Global, graph: &Graph, values: &[u128]) -> Result<Vec<Word>, Fail> {
     let mut words = Vec::new(alloc);
-    for (k, value) in (0..graph.inputs()).zip(values) {
-        let Some(word) = word(graph.input_width(k), *value) else {
+    for k in 0..graph.inputs() {
+        let value = values.get(k as usize).copied().unwrap_or(0);
+        let Some(word) = word(graph.input_width(k), value) else {
             return Err(Fail::from("no such word"));
         };
         words.push(word)?;

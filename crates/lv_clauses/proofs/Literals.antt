@@ -1,10 +1,10 @@
 -- Lists of literals and their members.
-use Rattle.std.proofs.Common.{◌≡◌, ℕ, ◌<◌, ◌≤◌, Bool, true, false, not, ◌||◌, eqb, List, [], ◌∷◌, ◌++◌, map, refl, sym, ◌∙◌, ap, subst, arith, ◌⊎◌, inl, inr}
+use Rattle.std.proofs.Common.{◌≡◌, ℕ, zero, suc, length, get_or, ◌<◌, ◌≤◌, Bool, true, false, not, ◌||◌, eqb, List, [], ◌∷◌, ◌++◌, map, refl, sym, ◌∙◌, ap, subst, arith, ◌⊎◌, inl, inr}
 use Rattle.std.specs.Prelude.{Option, Some, None, MatchOption}
 use Rattle.std.proofs.Math.Bool.{beq}
 use Rattle.std.proofs.lemmas.Bool.{cases_lt as cases, eqb-true, eq-eqb, and_parts, and_from, or_cases, true≢false}
 use Rattle.lv_clauses.specs.declared.lit.Lit.{Lit}
-use Rattle.lv_clauses.specs.Literals.{negated, same, has, Rises, AreUpTo, IsNext, FoundNext, IsClauseOf}
+use Rattle.lv_clauses.specs.Literals.{negated, same, has, Rises, AreUpTo, IsWithin, IsNext, FoundNext, IsClauseOf}
 
 pub beq-true : (a b : Bool) → beq a b ≡ true → a ≡ b
 beq-true true true e = refl
@@ -149,3 +149,16 @@ has-negated (x ∷ c) l e =
       | inl s ↦ subst (λ z. has (x ∷ c) z ≡ true) (sym (negated-negated x) ∙ ap negated s) (has-head x c)
       | inr later ↦ has-later x (negated l) c (has-negated c l later)
     ]
+
+-- a literal at a place
+pub has-at : (c : List Lit) (i : ℕ) (d : Lit) → i < length c → has c (get_or c i d) ≡ true
+has-at [] i d h = absurd (omega arith)
+has-at (x ∷ c) zero d h = has-head x c
+has-at (x ∷ c) (suc i) d h = has-later x (get_or c i d) c (has-at c i d (omega arith))
+
+pub IsWithin-more : (c : List Lit) (x : Lit) (n : ℕ) → IsWithin c n → 1 ≤ x.var → x.var ≤ n → IsWithin (c ++ x ∷ []) n
+IsWithin-more c x n h low high l i = elim (push-cases c x l i) [ inl a ↦ h l a | inr e ↦ subst (λ z. (1 ≤ z.var) × (z.var ≤ n)) e (low, high) ]
+
+-- what std reads past the end of a list of literals
+abbrev pub none : Lit
+none = record { var = 0; neg = false }

@@ -1,6 +1,6 @@
 ghost use Rattle.std.specs.Prelude.{◌≡◌, ℕ, ◌<◌, ◌≤◌, ◌↔◌, IfOk, MatchOption, IsTrue, List, false, true};
 ghost use Rattle.lv_clauses.specs.declared.lit.Lit.{Lit};
-ghost use Rattle.lv_clauses.specs.Literals.{has, negated, IsClause, IsClauseOf, HasPair, FoundNext};
+ghost use Rattle.lv_clauses.specs.Literals.{has, negated, IsClause, IsClauseOf, IsWithin, HasPair, FoundNext};
 
 use crate::lit::Lit;
 use lv_bits::NoMemory;
@@ -38,6 +38,18 @@ pub fn has_lit(lits: &[Lit], lit: Lit) -> bool
 {
     lits.iter()
         .any(|x| x.var() == lit.var() && x.neg() == lit.neg())
+}
+
+/// Whether the variables are among those from 1 to `vars`.
+pub fn are_within(lits: &[Lit], vars: u64) -> bool
+    ensures { IsTrue result ↔ IsWithin lits.now vars }
+{
+    for x in lits {
+        if x.var() < 1 || x.var() > vars {
+            return false;
+        }
+    }
+    true
 }
 
 /// Whether the literal should take the place of what was found.

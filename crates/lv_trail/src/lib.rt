@@ -1,0 +1,9 @@
+//! The literals that are true, and what unit steps make of them.
+#![tactic(auto)]
+
+mod status;
+mod store;
+mod trail;
+
+pub use store::Reached;
+pub use trail::Trail;

@@ -5,5 +5,7 @@ mod analyze;
 mod order;
 mod resolve;
 mod solve_set;
+#[cfg(test)]
+mod tests;
 
 pub use solve_set::{Answer, solve};

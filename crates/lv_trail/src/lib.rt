@@ -3,6 +3,8 @@
 
 mod status;
 mod store;
+#[cfg(test)]
+mod tests;
 mod trail;
 
 pub use store::Reached;

@@ -6,7 +6,7 @@ use Rattle.std.proofs.lemmas.Bool.{cases_Bool, cases_eq, or_cases, and_from, le-
 use Rattle.lv_clauses.specs.declared.lit.Lit.{Lit}
 use Rattle.lv_clauses.specs.Literals.{has, negated}
 use Rattle.lv_clauses.specs.Sets.{SetValue}
-use Rattle.lv_clauses.specs.Units.{remaining, Leaves, Units, IsFalsified, HasFalsified}
+use Rattle.lv_clauses.specs.Units.{remaining, Leaves, Units, LeavesNone, HasFalsified}
 use Rattle.lv_clauses.specs.Units.Units.{done, unit}
 use Rattle.lv_clauses.specs.Decided.{chosen, IsDecidedBy, signed, partial_value, has_true, count_free, rests, AreAtRest, IsDecidedAtRest}
 use Rattle.lv_clauses.proofs.Literals.{has-head, has-later, has-cases, negated-negated}
@@ -77,7 +77,7 @@ free-count t (l ∷ c) k e = let p = or-false (has t l) (is_met t c) e in free-s
 
 -- what a clause is
 abbrev Looked : List Lit → List Lit → Type 0
-Looked t c = IsFalsified t c ⊎ (((l : Lit) × Leaves t c l × (is_met t c ≡ false)) ⊎ (rests (values_in (known_of t) c) ≡ true))
+Looked t c = LeavesNone t c ⊎ (((l : Lit) × Leaves t c l × (is_met t c ≡ false)) ⊎ (rests (values_in (known_of t) c) ≡ true))
 
 two-most : (n : ℕ) → nat_le 2 (suc (suc n)) ≡ true
 two-most n = le-leb 2 (suc (suc n)) (omega arith)

@@ -9,8 +9,8 @@ remaining t [] = []
 remaining t (l ∷ c) = cond (has t (negated l)) (remaining t c) (l ∷ remaining t c)
 
 -- all literals of the clause are false
-abbrev pub IsFalsified : List Lit → List Lit → Type 0
-IsFalsified t c = remaining t c ≡ []
+abbrev pub LeavesNone : List Lit → List Lit → Type 0
+LeavesNone t c = remaining t c ≡ []
 
 -- one literal of the clause is left
 abbrev pub Leaves : List Lit → List Lit → Lit → Type 0
@@ -23,4 +23,4 @@ pub data Units (cs : List (List Lit)) : List Lit → List Lit → Type 0 where
 
 -- some clause is falsified
 abbrev pub HasFalsified : List (List Lit) → List Lit → Type 0
-HasFalsified cs t = (k : ℕ) × (c : List Lit) × (slice_get cs k ≡ Some c) × IsFalsified t c
+HasFalsified cs t = (k : ℕ) × (c : List Lit) × (slice_get cs k ≡ Some c) × LeavesNone t c

@@ -2,7 +2,9 @@ pub mod Blocks
 pub mod Build
 pub mod DesignA
 pub mod DesignM
+pub mod Each
 pub mod Hierarchy
+pub mod Induction
 pub mod LegalA
 pub mod Pipeline
 pub mod SafeA

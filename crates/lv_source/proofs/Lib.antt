@@ -3,8 +3,12 @@ pub mod Build
 pub mod DesignA
 pub mod DesignM
 pub mod Each
+pub mod Faithful
 pub mod Hierarchy
 pub mod Induction
 pub mod LegalA
 pub mod Pipeline
+pub mod Readings
 pub mod SafeA
+pub mod Tests
+pub mod Within

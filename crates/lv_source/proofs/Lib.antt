@@ -4,6 +4,7 @@ pub mod DesignA
 pub mod DesignM
 pub mod Each
 pub mod Faithful
+pub mod Fits
 pub mod Hierarchy
 pub mod Induction
 pub mod LegalA

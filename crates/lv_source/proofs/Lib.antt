@@ -13,3 +13,4 @@ pub mod Readings
 pub mod SafeA
 pub mod Tests
 pub mod Within
+pub mod Writes

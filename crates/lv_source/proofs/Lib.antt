@@ -8,6 +8,7 @@ pub mod Fits
 pub mod Hierarchy
 pub mod Induction
 pub mod LegalA
+pub mod Pieces
 pub mod Pipeline
 pub mod Readings
 pub mod SafeA

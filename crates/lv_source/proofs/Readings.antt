@@ -73,7 +73,7 @@ meanings_equal : (v w : Valuation) (rs : List Reading) → Each (EqualReading v 
 meanings_equal v w [] h = tt
 meanings_equal v w (r ∷ rs) h = (h.0, meanings_equal v w rs h.1)
 
-node : (names : Names) (x : Expr-F Reading Choice) → Below Faithful FaithfulChoice x → Faithful (read_step names x)
+pub node : (names : Names) (x : Expr-F Reading Choice) → Below Faithful FaithfulChoice x → Faithful (read_step names x)
 node names (Expr-F.Lit l) h = reading_faithful (literal l) [] tt (λ v w e W T. refl)
 node names (Expr-F.Name path cs) h = named_faithful (known (names path)) cs h
 node names (Expr-F.Un op a) h = reading_faithful (unary op a.meaning) (a ∷ []) (h, tt) (λ v w e. unary_equal v w op a.meaning (keeps_width op) e.0)

@@ -11,6 +11,7 @@ pub mod LegalA
 pub mod Pieces
 pub mod Pipeline
 pub mod Readings
+pub mod Runs
 pub mod SafeA
 pub mod Tests
 pub mod Within

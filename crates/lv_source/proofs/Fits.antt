@@ -112,7 +112,7 @@ plain_fits w signed f h = record { fits = λ W T v k. extended_lt T w W (f v) k 
 bit_fits : (f : Valuation → ℕ) → ((v : Valuation) → f v < 2) → Fits (one_bit f)
 bit_fits f h = record { fits = λ W T v k. (let e : 2 ^ 1 ≤ 2 ^ W = pow_le 1 W k in let x : f v < 2 = h v in omega arith) }
 
-own_fits : (m : Meaning) → Fits m → (v : Valuation) → own_value m v < 2 ^ m.width
+pub own_fits : (m : Meaning) → Fits m → (v : Valuation) → own_value m v < 2 ^ m.width
 own_fits m h v = h.fits m.width m.signed v (let e : m.width ≤ m.width = omega arith in e)
 
 unary_fits : (op : Op) (a : Meaning) → Fits a → (k : Bool) → keeps_width op ≡ k →
@@ -261,7 +261,7 @@ fits names e = of_expr Reading Choice (read_step names) choice FitsReading NoDem
 pub record Extends (m : Meaning) : Type 0 where
   pub extends : (W : ℕ) (T : Bool) (v : Valuation) → (T ≡ true → m.signed ≡ true) → m.value W T v ≡ extended T m.width W (own_value m v)
 
-at_own : (T : Bool) (w x : ℕ) → extended T w w x ≡ x
+pub at_own : (T : Bool) (w x : ℕ) → extended T w w x ≡ x
 at_own T w x = elim (T && not (nat_lt x (2 ^ (w - 1)))) as (λ c. (if c then x + (2 ^ w - 2 ^ w) else x) ≡ x) [ true ↦ omega arith | false ↦ refl ]
 
 plain_extends : (w : ℕ) (signed : Bool) (f : Valuation → ℕ) → Extends (plain w signed f)

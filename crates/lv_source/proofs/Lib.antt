@@ -1,5 +1,6 @@
 pub mod Blocks
 pub mod Build
+pub mod Cases
 pub mod DesignA
 pub mod DesignM
 pub mod Each

@@ -6,6 +6,7 @@ pub mod DesignM
 pub mod Each
 pub mod Faithful
 pub mod Fits
+pub mod Follows
 pub mod Hierarchy
 pub mod Induction
 pub mod LegalA

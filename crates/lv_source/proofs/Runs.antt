@@ -57,10 +57,10 @@ after-surely A (e ∷ es) b h = elim (any-split (same_bit b) (event_surely e) (s
 abbrev pub Outcome : (Bit → Bool) → List (List Event) → State → State → State → State → Type 0
 Outcome A ps s t s' t' = Some' (λ p. Same (After A p) s'.valuation t'.valuation) ps × (s'.pending ≡ s.pending) × (t'.pending ≡ t.pending)
 
-abbrev Any : List Event → Type 0
+abbrev pub Any : List Event → Type 0
 Any p = Unit {0}
 
-abbrev NoneOf : (Event → Bool) → List Event → Type 0
+abbrev pub NoneOf : (Event → Bool) → List Event → Type 0
 NoneOf q p = list_any q p ≡ false
 
 pub record Runs (g : State → State) (f : Flow) : Type 0 where
@@ -84,13 +84,13 @@ any-none p (x ∷ xs) ys h k =
     let rest : list_any p (xs ++ ys) ≡ false = any-none p xs ys (or-none_right (p x) (list_any p xs) h) k in
     ap (λ b. b || list_any p (xs ++ ys)) first ∙ rest
 
-none-left : {A : Type 0} (p : A → Bool) (xs ys : List A) → list_any p (xs ++ ys) ≡ false → list_any p xs ≡ false
+pub none-left : {A : Type 0} (p : A → Bool) (xs ys : List A) → list_any p (xs ++ ys) ≡ false → list_any p xs ≡ false
 none-left p [] ys h = refl
 none-left p (x ∷ xs) ys h =
     let first : p x ≡ false = or-none_left (p x) (list_any p (xs ++ ys)) h in
     ap (λ b. b || list_any p xs) first ∙ none-left p xs ys (or-none_right (p x) (list_any p (xs ++ ys)) h)
 
-none-right : {A : Type 0} (p : A → Bool) (xs ys : List A) → list_any p (xs ++ ys) ≡ false → list_any p ys ≡ false
+pub none-right : {A : Type 0} (p : A → Bool) (xs ys : List A) → list_any p (xs ++ ys) ≡ false → list_any p ys ≡ false
 none-right p [] ys h = h
 none-right p (x ∷ xs) ys h = none-right p xs ys (or-none_right (p x) (list_any p (xs ++ ys)) h)
 

@@ -15,6 +15,7 @@ pub mod Pipeline
 pub mod Readings
 pub mod Runs
 pub mod SafeA
+pub mod Settles
 pub mod Tests
 pub mod Within
 pub mod Writes

@@ -226,7 +226,7 @@ mutual
 
   arms_follow : {n : _} (r : Row_of-Arm n) → Pairs SameArm (fold_arms Effect (ArmOf Effect) effect_step arm_step r) (fold_arms Flows (ArmOf Flows) flow_step arm_step r)
   arms_follow end_of-Arm = tt
-  arms_follow (more_of-Arm labels body xs) = (record { labels = refl; body = follows_by body }, arms_follow xs)
+  arms_follow (more_of-Arm ls body xs) = (record { labels = refl; body = follows_by body }, arms_follow xs)
 
 pub follows : (names : Names) (s : Stmt) → Runs (executes names s) (flow names s)
 unfolding executes flow

@@ -1,9 +1,11 @@
 pub mod Blocks
 pub mod Build
 pub mod Cases
+pub mod Chains
 pub mod DesignA
 pub mod DesignM
 pub mod Each
+pub mod Facts
 pub mod Faithful
 pub mod Fits
 pub mod Follows
@@ -12,10 +14,12 @@ pub mod Induction
 pub mod LegalA
 pub mod Pieces
 pub mod Pipeline
+pub mod Provenance
 pub mod Readings
 pub mod Runs
 pub mod SafeA
 pub mod Settles
 pub mod Tests
+pub mod Unique
 pub mod Within
 pub mod Writes

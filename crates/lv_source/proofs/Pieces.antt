@@ -43,7 +43,7 @@ mutual
   all_faithful names (more_of-Target t ts) =
       each-join FaithfulPiece (pieces names t) (flat_map (λ ps. ps) (fold_targets (List Piece) (piece_step names) ts)) (pieces_faithful names t) (all_faithful names ts)
 
-abbrev MaybeFaithful : Option (List Piece) → Type 0
+abbrev pub MaybeFaithful : Option (List Piece) → Type 0
 MaybeFaithful None = Unit {0}
 MaybeFaithful (Some ps) = Each FaithfulPiece ps
 

@@ -87,6 +87,13 @@ all_bits P q (c ∷ cs) h b m t = elim (q c) as (λ k. q c ≡ k → All P (cond
   ]
 ] refl h
 
+pub all_bits_in : (P : Bit → Type 0) (bs : List Bit) → All P bs → (b : Bit) → has_bit bs b ≡ true → P b
+all_bits_in P [] h b m = cc
+all_bits_in P (c ∷ cs) h b m = elim (or-split (same_bit b c) (has_bit cs b) m) [
+  | inl e ↦ subst P (sym (same_bits b c e)) (All-head P c cs h)
+  | inr e ↦ all_bits_in P cs (All-tail P c cs h) b e
+]
+
 -- of each name of a list
 pub all_names : (P : Name → Type 0) (ns : List Name) → All P ns → (n : Name) → list_any (bytes_eq n) ns ≡ true → P n
 all_names P [] h n m = cc

@@ -4,6 +4,7 @@ pub mod Cases
 pub mod Chains
 pub mod DesignA
 pub mod DesignM
+pub mod Determined
 pub mod Each
 pub mod Facts
 pub mod Faithful
@@ -16,6 +17,7 @@ pub mod Pieces
 pub mod Pipeline
 pub mod Provenance
 pub mod Readings
+pub mod Refused
 pub mod Runs
 pub mod SafeA
 pub mod Settles

@@ -5,6 +5,7 @@ use Rattle.std.specs.List.{list_any, list_all}
 use Rattle.std.proofs.lemmas.Bool.{cases_lt, eqb-true}
 use Rattle.std.proofs.lemmas.Nat.Bits.{same_from_bits, bit_at_above}
 use Rattle.std.proofs.lemmas.List.{length-append}
+use mathlib.Core.Path.{fun_ext}
 use Rattle.lv_ast.specs.Names.{Name, Declared, Valuation, width_of, is_variable_sort, is_input_sort}
 use Rattle.lv_ast.specs.Places.{Bit, bit_at, has_bit, same_bit, whole, cells}
 use Rattle.lv_ast.specs.Meaning.{all_constant}
@@ -228,5 +229,5 @@ module _ (d : Design) (legal : IsLegal d) (v w : Valuation) (sv : IsSettled d v)
       settle (length ps) (k ∷ []) k p e c refl refl (at_below ps k p e, tt) (omega arith) (record { name = name; place = i }) h))
 
 -- two settled valuations with the same registers and inputs are the same
-pub unique : (d : Design) → IsLegal d → (v w : Valuation) → IsSettled d v → IsSettled d w → SameOn (registers d) v w → SameInputs d v w → (name : Name) → v name ≡ w name
-unique d legal v w sv sw sr si name = same_value d legal v w sv sw sr si name
+pub unique : (d : Design) → IsLegal d → (v w : Valuation) → IsSettled d v → IsSettled d w → SameOn (registers d) v w → SameInputs d v w → v ≡ w
+unique d legal v w sv sw sr si = fun_ext (same_value d legal v w sv sw sr si)

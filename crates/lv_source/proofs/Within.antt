@@ -16,7 +16,7 @@ InWidth n (Some k) = k < n
 
 -- ---- bits of a whole signal
 
-below_has : (width k : ℕ) (name : Name) → k < width → has_bit (bits_below width name) (record { name = name; place = k }) ≡ true
+pub below_has : (width k : ℕ) (name : Name) → k < width → has_bit (bits_below width name) (record { name = name; place = k }) ≡ true
 below_has width k name h =
     let b : Bit = record { name = name; place = k } in
     let f : ℕ → Bit = λ i. record { name = name; place = i } in

@@ -12,11 +12,11 @@ use Rattle.lv_ast.specs.declared.item.Range.{Range}
 use Rattle.lv_ast.specs.declared.item.Conn.{Conn}
 use Rattle.lv_ast.specs.Trees.{fold_expr, fold_select, fold_target, fold_stmt}
 use Rattle.lv_ast.specs.Names.{Names}
-use Rattle.lv_ast.specs.Places.{whole}
 use Rattle.lv_ast.specs.Effect.{ArmOf, arm_step, with_index, turns}
 use Rattle.lv_source.specs.Declarations.{Declaration, Direction, Wire, Reg, Parameter, Index, Instance, Label}
 use Rattle.lv_source.specs.Scopes.{Scope}
-use Rattle.lv_source.specs.Parts.{Design, parts, scopes, register_signals}
+use Rattle.lv_source.specs.Parts.{Design, parts, scopes}
+use Rattle.lv_source.specs.Settled.{register_bits}
 
 -- ---- nodes of expressions
 
@@ -131,4 +131,4 @@ pub record IsWithinLimits (d : Design) : Type 0 where
 
 -- the bits of all registers
 abbrev pub state_bits : Design → ℕ
-state_bits d = length (flat_map whole (register_signals d))
+state_bits d = length (register_bits d)

@@ -1,8 +1,8 @@
 -- Settled valuations, the next state, and runs.
 use Rattle.std.specs.Prelude.{◌≡◌, ℕ, ◌<◌, ◌^◌, not, ◌&&◌, List, [], ◌∷◌, Option, Some, None, All, flat_map, filter, find}
 use Rattle.lv_ast.specs.Names.{Name, Valuation}
-use Rattle.lv_ast.specs.Places.{Bit, has_bit, whole, bit_at}
-use Rattle.lv_source.specs.Parts.{Design, Part, parts, signals, inputs, register_signals, after, drives, is_clocked, is_wired, driven_by, read_by, width_at}
+use Rattle.lv_ast.specs.Places.{Bit, has_bit, whole, bits_below, bit_at}
+use Rattle.lv_source.specs.Parts.{Design, Part, parts, signals, inputs, registers, after, drives, is_clocked, is_wired, driven_by, read_by, width_at}
 
 -- bits that nothing drives and nothing reads
 abbrev pub idle_bits : Design → List Bit
@@ -25,9 +25,12 @@ left_bit v b (Some p) = bit_at (after p v) b
 abbrev pub next_bit : Design → Valuation → Bit → ℕ
 next_bit d v b = left_bit v b (find (λ p. is_clocked p && has_bit (drives p) b) (parts d))
 
+abbrev pub register_bits : Design → List Bit
+register_bits d = flat_map (λ name. bits_below (width_at d name) name) (registers d)
+
 -- each register of w has the bits that v leaves
 abbrev pub Follows : Design → Valuation → Valuation → Type 0
-Follows d v w = All (λ b. bit_at w b ≡ next_bit d v b) (flat_map whole (register_signals d))
+Follows d v w = All (λ b. bit_at w b ≡ next_bit d v b) (register_bits d)
 
 abbrev pub SameOn : List Name → Valuation → Valuation → Type 0
 SameOn names l r = All (λ name. l name ≡ r name) names
@@ -42,3 +45,8 @@ NextFollows d v (w ∷ ws) = Follows d v w
 abbrev pub IsRun : Design → List Valuation → Type 0
 IsRun d [] = Unit {0}
 IsRun d (v ∷ vs) = IsSettled d v × NextFollows d v vs × IsRun d vs
+
+-- the first valuations have the same registers
+abbrev pub StartAlike : Design → List Valuation → List Valuation → Type 0
+StartAlike d (v ∷ vs) (w ∷ ws) = SameOn (registers d) v w
+StartAlike d _ _ = Unit {0}

@@ -1,5 +1,5 @@
 -- Designs by hand.
-use Rattle.std.specs.Prelude.{ℕ, List, map, codes}
+use Rattle.std.specs.Prelude.{ℕ, Bool, true, false, List, [], ◌∷◌, map, codes}
 use Rattle.lv_ast.specs.declared.item.Module.{Module}
 use Rattle.lv_source.specs.Parts.{Design}
 use Rattle.lv_source.specs.Legal.{Kind, refusals, places_of}
@@ -15,3 +15,7 @@ refused d = map (λ r. (r.kind, r.at.place)) (refusals d)
 -- the places of one kind
 abbrev pub told_at : Design → Kind → List ℕ
 told_at d kind = map (λ at. at.place) (places_of d kind)
+
+abbrev pub is_empty : List ℕ → Bool
+is_empty [] = true
+is_empty (x ∷ xs) = false

@@ -17,6 +17,7 @@ pub mod Pieces
 pub mod Pipeline
 pub mod Provenance
 pub mod Readings
+pub mod Refusals
 pub mod Refused
 pub mod Runs
 pub mod SafeA

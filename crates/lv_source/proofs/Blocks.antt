@@ -14,12 +14,13 @@ use Rattle.lv_ast.specs.declared.stmt.Stmt.{Stmt}
 use Rattle.lv_ast.specs.declared.stmt.Stmt.TheVariants as b
 use Rattle.lv_ast.specs.declared.item.Item.{Item}
 use Rattle.lv_ast.specs.declared.item.Item.TheVariants as i
+use Rattle.lv_ast.specs.declared.item.Ports.TheVariants as p
 use Rattle.lv_ast.specs.Names.{Valuation}
 use Rattle.lv_source.specs.Parts.{Design, parts, registers, inputs, after}
 use Rattle.lv_source.specs.Settled.{next_bit, idle_bits}
-use Rattle.lv_source.specs.Legal.{Latch}
-use Rattle.lv_ast.proofs.Build.{id, name, bin, to, to_bits, bit, chosen, plain, sized, wild, bits, block, case_of, input, output, output_reg, assign, module_of, clk, always_star, at_clock, reg, wire, valued, loop_of}
-use Rattle.lv_source.proofs.Build.{design_t, refused}
+use Rattle.lv_source.specs.Legal.{Latch, Port}
+use Rattle.lv_ast.proofs.Build.{id, name, bin, to, to_bits, bit, chosen, plain, sized, wild, bits, block, case_of, input, output, output_reg, assign, module_of, clk, always_star, at_clock, reg, wire, valued, loop_of, cat, down}
+use Rattle.lv_source.proofs.Build.{design_t, refused, told_at}
 
 -- ---- three labels for two bits
 
@@ -155,25 +156,56 @@ idle : idle_bits (design_t (module_of (codes "t") (clk ∷ []) (wire (codes "w")
 unfolding read_expr read_select pieces executes turns turns_from flow labels as_target walk walk_select target_sites standing digits
 idle = refl
 
--- ---- a full `case` is one at the width of the `case`
+-- ---- two registers that exchange their values
 
--- always @* case (a + b) 4'd0: y = 0; .. 4'd3: y = 0; endcase, with a and b of two bits: the sum has more than two bits at the width of the labels
-abbrev wide_arm : ℕ → List Expr × Stmt
-wide_arm label = (sized 4 label ∷ [], b.Now (to (codes "y")) (sized 1 0) 70)
+abbrev pair : Design
+pair = design_t (module_of (codes "t") (clk ∷ output_reg (codes "a") 26 None ∷ output_reg (codes "b") 36 None ∷ [])
+    (at_clock (block (b.Later (to (codes "a")) (name (codes "b")) 50 ∷ b.Later (to (codes "b")) (name (codes "a")) 60 ∷ [])) 40 ∷ []) ∷ [])
 
-abbrev carried : Design
-carried = design_t (module_of (codes "t") (clk ∷ input (codes "a") 26 (Some (bits 1 0)) ∷ input (codes "b") 28 (Some (bits 1 0)) ∷ output_reg (codes "y") 40 None ∷ [])
-    (always_star (case_of false (bin o.Add (name (codes "a")) (name (codes "b"))) (wide_arm 0 ∷ wide_arm 1 ∷ wide_arm 2 ∷ wide_arm 3 ∷ [])) 52 ∷ []) ∷ [])
-
-carried_is_refused : refused carried ≡ (Latch, 52) ∷ []
+pair_is_legal : refused pair ≡ []
 unfolding read_expr read_select pieces executes turns turns_from flow labels as_target walk walk_select target_sites standing digits
-carried_is_refused = refl
+pair_is_legal = refl
 
--- for both values of y are settled where a and b are 3
-keeps_zero : map (λ p. after p (valued ((codes "a", 3) ∷ (codes "b", 3) ∷ (codes "y", 0) ∷ [])) (codes "y")) (parts carried) ≡ 0 ∷ []
+pair_next : map (λ n. next_of pair (valued ((codes "a", 1) ∷ [])) n (0 ∷ [])) (codes "a" ∷ codes "b" ∷ []) ≡ (0 ∷ []) ∷ (1 ∷ []) ∷ []
 unfolding read_expr read_select pieces executes turns turns_from flow labels as_target walk walk_select target_sites standing digits
-keeps_zero = refl
+pair_next = refl
 
-keeps_one : map (λ p. after p (valued ((codes "a", 3) ∷ (codes "b", 3) ∷ (codes "y", 1) ∷ [])) (codes "y")) (parts carried) ≡ 1 ∷ []
+-- ---- selects out of range read 0, and a write there has no effect: y = {x[5], x[1 -: 2], x[0]} of wire [1:0] x, and r[4] = 1
+
+abbrev beyond : Design
+beyond = design_t (module_of (codes "t") (clk ∷ input (codes "x") 26 (Some (bits 1 0)) ∷ output (codes "y") 36 (Some (bits 3 0)) ∷ output_reg (codes "r") 38 (Some (bits 3 0)) ∷ [])
+    (assign (to (codes "y")) (cat (chosen (codes "x") (bit (plain 5) ∷ []) ∷ chosen (codes "x") (down (plain 1) (plain 2) ∷ []) ∷ chosen (codes "x") (bit (plain 0) ∷ []) ∷ [])) 40 ∷
+    always_star (block (b.Now (to (codes "r")) (sized 4 2) 60 ∷ b.Now (to_bits (codes "r") (bit (plain 4) ∷ [])) (sized 1 1) 70 ∷ [])) 50 ∷ []) ∷ [])
+
+beyond_is_legal : refused beyond ≡ []
 unfolding read_expr read_select pieces executes turns turns_from flow labels as_target walk walk_select target_sites standing digits
-keeps_one = refl
+beyond_is_legal = refl
+
+beyond_reads : map (λ p. after p (valued ((codes "x", 3) ∷ [])) (codes "y")) (parts beyond) ≡ 7 ∷ 0 ∷ []
+unfolding read_expr read_select pieces executes turns turns_from flow labels as_target walk walk_select target_sites standing digits
+beyond_reads = refl
+
+beyond_keeps : map (λ p. after p (valued []) (codes "r")) (parts beyond) ≡ 0 ∷ 2 ∷ []
+unfolding read_expr read_select pieces executes turns turns_from flow labels as_target walk walk_select target_sites standing digits
+beyond_keeps = refl
+
+-- ---- ports that the header lists by name: each wants a direction among the items
+
+abbrev listed : List Item → Design
+listed xs = design_t (record { name = id (codes "t") 7; params = []; ports = p.Names (id (codes "clk") 9 ∷ id (codes "a") 14 ∷ id (codes "y") 17 ∷ []); items = xs } ∷ [])
+
+abbrev directions : List Item
+directions = i.Port clk ∷ i.Port (input (codes "a") 26 None) ∷ i.Port (output (codes "y") 36 None) ∷ assign (to (codes "y")) (name (codes "a")) 40 ∷ []
+
+listed_is_legal : refused (listed directions) ≡ []
+unfolding read_expr read_select pieces executes turns turns_from flow labels as_target walk walk_select target_sites standing digits
+listed_is_legal = refl
+
+listed_inputs : inputs (listed directions) ≡ codes "a" ∷ []
+unfolding read_expr read_select pieces executes turns turns_from flow labels as_target walk walk_select target_sites standing digits
+listed_inputs = refl
+
+-- without its direction, and with a direction for a name that isn't listed
+unlisted : map (λ xs. told_at (listed xs) Port) ((i.Port clk ∷ i.Port (output (codes "y") 36 None) ∷ []) ∷ (i.Port (input (codes "b") 44 None) ∷ directions) ∷ []) ≡ (14 ∷ []) ∷ (44 ∷ []) ∷ []
+unfolding read_expr read_select pieces executes turns turns_from flow labels as_target walk walk_select target_sites standing digits
+unlisted = refl

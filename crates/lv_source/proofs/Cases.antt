@@ -1,20 +1,20 @@
 -- A `case` takes the same arm in both, and one of its arms where its labels are full.
-use Rattle.std.proofs.Common.{◌≡◌, ◌⊎◌, inl, inr, ℕ, zero, suc, ◌+◌, ◌^◌, ◌<◌, ◌≤◌, max, Bool, true, false, ◌&&◌, ◌||◌, ◌==◌, not, List, [], ◌∷◌, ◌++◌, map, refl, sym, ap, ◌∙◌, subst, arith}
+use Rattle.std.proofs.Common.{◌≡◌, inl, inr, ℕ, zero, suc, ◌+◌, ◌^◌, ◌<◌, ◌≤◌, Bool, true, false, ◌&&◌, ◌||◌, ◌==◌, List, [], ◌∷◌, ◌++◌, refl, sym, ap, ◌∙◌, subst, arith}
 use Rattle.std.specs.Prelude.{flat_map, if◌then◌else◌, nat_le, bit_or}
 use Rattle.std.specs.List.{list_any, list_all, range_with_len}
 use Rattle.lv_bits.specs.Values.{extended}
 use Rattle.lv_ast.specs.declared.expr.Expr.{Expr}
 use Rattle.lv_ast.specs.Names.{Names, Valuation}
-use Rattle.lv_ast.specs.Values.{Meaning, nowhere, own_value}
+use Rattle.lv_ast.specs.Values.{nowhere, own_value}
 use Rattle.lv_ast.specs.Places.{Bit, has_bit}
-use Rattle.lv_ast.specs.Meaning.{Reading, read_expr, meaning}
-use Rattle.lv_ast.specs.Effect.{State, Effect, ArmOf, arm_taken, is_default, all_labels, Width, common, is_match, free_bits, unchanged}
-use Rattle.lv_source.specs.Flow.{Event, Flow, Flows, is_full, is_extended}
+use Rattle.lv_ast.specs.Meaning.{read_expr, meaning}
+use Rattle.lv_ast.specs.Effect.{State, Effect, ArmOf, arm_taken, is_default, all_labels, Width, common, is_match, free_bits}
+use Rattle.lv_source.specs.Flow.{Event, Flows, is_full, is_extended}
 use Rattle.lv_source.proofs.Each.{Each, Some', Pairs, each-left, each-right, each-join, some-left, some-right, some-split}
-use Rattle.lv_source.proofs.Tests.{or-split, or-left, or-right, or-none_left, or-none_right, and-left, and-right, decide}
-use Rattle.lv_source.proofs.Faithful.{Same, same-left, same-right, Equal, Faithful}
+use Rattle.lv_source.proofs.Tests.{or-none_left, or-none_right, and-left, and-right}
+use Rattle.lv_source.proofs.Faithful.{Same, same-left, same-right, Equal}
 use Rattle.lv_source.proofs.Readings.{faithful}
-use Rattle.lv_source.proofs.Fits.{Fits, Extends, fits, extends, own_fits, at_own}
+use Rattle.lv_source.proofs.Fits.{fits, extends, own_fits, at_own}
 use Rattle.lv_source.proofs.Runs.{Covered, Outcome, Runs, After}
 
 -- ---- labels that fit

@@ -1,11 +1,11 @@
 -- Where parts feed on each other without a circle, a walk from part to part comes to an end.
-use Rattle.std.proofs.Common.{◌≡◌, ◌⊎◌, inl, inr, ℕ, zero, suc, ◌+◌, ◌<◌, ◌≤◌, Bool, true, false, ◌&&◌, ◌||◌, ◌==◌, not, List, [], ◌∷◌, ◌++◌, length, refl, sym, ap, ◌∙◌, arith}
+use Rattle.std.proofs.Common.{◌≡◌, inl, inr, ℕ, ◌<◌, ◌≤◌, true, false, ◌||◌, ◌==◌, not, List, [], ◌∷◌, ◌++◌, length, refl, sym, ap, ◌∙◌, arith}
 use Rattle.std.specs.List.{list_any, IsDistinct, AllByRecursion}
 use Rattle.std.proofs.lemmas.Bool.{eqb-true, eq-eqb}
 use Rattle.std.proofs.lemmas.Map.Steps.{length-le_from_distinct_below}
 use Rattle.lv_source.specs.Parts.{Part}
 use Rattle.lv_source.specs.PartRules.{feeds, is_chain, are_distinct, is_cycle}
-use Rattle.lv_source.proofs.Each.{Each, each-join}
+use Rattle.lv_source.proofs.Each.{Each}
 use Rattle.lv_source.proofs.Tests.{and-left, and-right, and-both, or-split, or-none_left, or-none_right, not-true, decide}
 
 -- ---- distinct numbers

@@ -1,14 +1,14 @@
 -- Next states are one, and runs are determined by their first state and their inputs.
-use Rattle.std.proofs.Common.{◌≡◌, ◌⊎◌, inl, inr, ℕ, zero, suc, ◌<◌, ◌≤◌, ◌^◌, Bool, true, false, List, [], ◌∷◌, ◌++◌, refl, sym, ap, ◌∙◌, subst, arith}
-use Rattle.std.specs.Prelude.{flat_map, All, bytes_eq}
-use Rattle.std.specs.List.{list_any, AllZip}
+use Rattle.std.proofs.Common.{◌≡◌, inl, inr, true, List, [], ◌∷◌, ◌++◌, refl, sym, ap, ◌∙◌, subst}
+use Rattle.std.specs.Prelude.{flat_map, All}
+use Rattle.std.specs.List.{AllZip}
 use Rattle.std.proofs.lemmas.Bool.{cases_lt}
 use Rattle.std.proofs.lemmas.List.Elements.{All-nil, All-cons, All-head, All-tail}
 use Rattle.std.proofs.lemmas.Nat.Bits.{same_from_bits, bit_at_above}
 use Rattle.lv_ast.specs.Names.{Name, Valuation}
 use Rattle.lv_ast.specs.Places.{Bit, bit_at, has_bit, bits_below}
-use Rattle.lv_source.specs.Parts.{Design, registers, inputs, width_at}
-use Rattle.lv_source.specs.Settled.{IsSettled, Follows, SameOn, SameInputs, NextFollows, IsRun, StartAlike, next_bit, register_bits}
+use Rattle.lv_source.specs.Parts.{Design, registers, width_at}
+use Rattle.lv_source.specs.Settled.{IsSettled, Follows, SameOn, SameInputs, NextFollows, IsRun, StartAlike, next_bit}
 use Rattle.lv_source.specs.Legal.{IsLegal}
 use Rattle.lv_source.proofs.Within.{below_has}
 use Rattle.lv_source.proofs.Facts.{all_bits_in}

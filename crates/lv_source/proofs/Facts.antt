@@ -1,16 +1,16 @@
 -- What a legal source says of each of its parts.
-use Rattle.std.proofs.Common.{◌≡◌, ◌⊎◌, inl, inr, ℕ, zero, suc, ◌+◌, ◌<◌, Bool, true, false, ◌&&◌, ◌||◌, ◌==◌, not, List, [], ◌∷◌, ◌++◌, length, map, refl, sym, ap, ◌∙◌, subst, arith, Option, Some, None}
-use Rattle.std.specs.Prelude.{flat_map, filter, cond, slice_get, if◌then◌else◌, All, bytes_eq}
-use Rattle.std.specs.List.{list_any, list_all}
+use Rattle.std.proofs.Common.{◌≡◌, inl, inr, ℕ, zero, suc, ◌<◌, Bool, true, false, ◌&&◌, ◌||◌, not, List, [], ◌∷◌, ◌++◌, length, map, refl, sym, ap, ◌∙◌, subst, arith, Some}
+use Rattle.std.specs.Prelude.{flat_map, filter, cond, slice_get, All, bytes_eq}
+use Rattle.std.specs.List.{list_any}
 use Rattle.std.proofs.lemmas.List.Elements.{All-head, All-tail}
 use Rattle.lv_ast.specs.Names.{Name, Declared}
 use Rattle.lv_ast.specs.Places.{Bit, has_bit, same_bit, whole, cells}
 use Rattle.lv_source.specs.Flow.{Event}
-use Rattle.lv_source.specs.Parts.{Design, Part, At, parts, numbered_from, signals, is_comb, is_clocked}
+use Rattle.lv_source.specs.Parts.{Design, Part, At, parts, numbered_from, signals, is_comb}
 use Rattle.lv_source.specs.PartRules as r
 use Rattle.lv_source.specs.Legal.{IsLegal, NotConstant, WrongKind, Nonblocking, TwoDrivers, Undriven, Latch, ReadFirst}
 use Rattle.lv_source.proofs.Each.{Each}
-use Rattle.lv_source.proofs.Tests.{and-both, or-left, or-right, or-split, or-none_left, or-none_right, any-left, any-right, same_bits, same_name}
+use Rattle.lv_source.proofs.Tests.{or-left, or-right, or-split, or-none_right, any-left, any-right, same_bits, same_name}
 
 -- ---- empty lists
 

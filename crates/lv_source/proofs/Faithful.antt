@@ -1,22 +1,20 @@
 -- The value of an expression depends on the bits that it reads alone, and that of a constant one on nothing.
-use Rattle.std.proofs.Common.{◌≡◌, ℕ, ◌+◌, ◌*◌, ◌/◌, ◌%◌, ◌^◌, ◌-◌, max, Bool, true, false, ◌&&◌, ◌||◌, ◌==◌, List, [], ◌∷◌, ◌++◌, map, refl, sym, ap, ◌∙◌, Option, Some, None}
+use Rattle.std.proofs.Common.{◌≡◌, ℕ, ◌+◌, ◌*◌, ◌^◌, ◌-◌, max, Bool, true, false, ◌&&◌, ◌==◌, List, [], ◌∷◌, ◌++◌, map, refl, ap, ◌∙◌, Option, Some, None}
 use Rattle.std.specs.Prelude.{pos, negsuc, ◌-ℤ◌, decimal}
 use Rattle.lv_bits.specs.Values.{signed_of}
 use Rattle.lv_ast.specs.Names.{Name, low, high, at_index}
 use Rattle.lv_ast.specs.Places.{within}
 use Rattle.std.specs.Prelude.{flat_map, if◌then◌else◌, ℤ}
-use Rattle.std.specs.List.{list_any, list_all}
+use Rattle.std.specs.List.{list_all}
 use Rattle.lv_bits.specs.declared.op.Op.{Op}
-use Rattle.lv_bits.specs.Values.{extended, unary_value, binary_value, keeps_width, is_apart}
-use Rattle.lv_ast.specs.declared.expr.Expr.{Expr}
-use Rattle.lv_ast.specs.declared.expr.Expr.TheOpen.{Expr-F, Select-F}
-use Rattle.lv_ast.specs.Names.{Names, Declared, Bounds, Valuation, Sort, Input, Net, Variable, Clock, Constant, Index, Other, known, is_constant_sort, is_signal_sort, width_of}
-use Rattle.lv_ast.specs.Values.{Meaning, Chosen, own_value, nowhere, literal, plain, one_bit, unary, binary, shift, arithmetic, logical, compared, chosen, concatenated, replicated, cast, divided, quotient, remainder, joined, repeated, widths, number_of}
-use Rattle.lv_ast.specs.Places.{Bit, Place, bit_at, has_bit, place_bits, some_bit, place_of, place_by, element, bits_of, bits_from, lowest, count_of, held, read, read_bits, whole, all_bits, nowhere_place}
-use Rattle.lv_ast.specs.Meaning.{Reading, Choice, reading, meanings, named, bits_named, index_reads, all_constant, meant, parts_of, read_step, choice, read_expr, read_select}
-use Rattle.lv_source.proofs.Tests.{and-left, and-right, or-left, or-right, any-left, any-right, any-map, any-range, has-head}
-use Rattle.lv_source.proofs.Each.{Each, each-map, each-imp}
-use Rattle.lv_source.proofs.Induction.{Below, Inside, of_expr, of_select}
+use Rattle.lv_bits.specs.Values.{extended, unary_value, binary_value}
+use Rattle.lv_ast.specs.declared.expr.Expr.TheOpen.{Select-F}
+use Rattle.lv_ast.specs.Names.{Declared, Bounds, Valuation}
+use Rattle.lv_ast.specs.Values.{Meaning, own_value, nowhere, plain, one_bit, shift, arithmetic, logical, compared, chosen, replicated, divided, joined, repeated, widths, number_of}
+use Rattle.lv_ast.specs.Places.{Bit, Place, bit_at, has_bit, place_bits, some_bit, place_of, place_by, element, bits_of, bits_from, lowest, count_of, read, read_bits, nowhere_place}
+use Rattle.lv_ast.specs.Meaning.{Reading, Choice, reading, index_reads, all_constant, meant, parts_of}
+use Rattle.lv_source.proofs.Tests.{and-left, and-right, any-left, any-right, has-head}
+use Rattle.lv_source.proofs.Each.{Each}
 
 -- ---- bits that two valuations share
 

@@ -1,6 +1,6 @@
 -- A value at a width is below the power of that width, and what can't carry is its own value, extended.
-use Rattle.std.proofs.Common.{◌≡◌, ◌⊎◌, inl, inr, ℕ, zero, suc, ◌+◌, ◌-◌, ◌*◌, ◌/◌, ◌%◌, ◌^◌, ◌<◌, ◌≤◌, max, Bool, true, false, ◌&&◌, ◌||◌, not, ◌==◌, List, [], ◌∷◌, ◌++◌, map, length, refl, sym, ap, ◌∙◌, arith, subst, Option, Some, None}
-use Rattle.std.specs.Prelude.{if◌then◌else◌, ℤ, pos, negsuc, nat_lt, count_ones, sum, int_div, int_rem}
+use Rattle.std.proofs.Common.{◌≡◌, ℕ, zero, suc, ◌+◌, ◌-◌, ◌*◌, ◌/◌, ◌%◌, ◌^◌, ◌<◌, ◌≤◌, max, Bool, true, false, ◌&&◌, not, ◌==◌, List, [], ◌∷◌, map, length, refl, sym, ap, ◌∙◌, arith, subst, Option, Some, None}
+use Rattle.std.specs.Prelude.{if◌then◌else◌, ℤ, pos, negsuc, nat_lt, int_div, int_rem}
 use Rattle.std.proofs.lemmas.Nat.{pow_pos, or_lt, xor_lt}
 use Rattle.std.specs.Int.Bits.{and_lt}
 use Rattle.std.proofs.Math.Nat.{div-le_self}
@@ -20,14 +20,13 @@ use Rattle.std.proofs.lemmas.List.{length-map, length-reverse}
 use Rattle.lv_ast.specs.Names.{Bounds, low, high, width_of, at_index}
 use Rattle.lv_ast.specs.Values.{Chosen}
 use Rattle.lv_ast.specs.Places.{rising, falls, bit_place, lowest, count_of, nowhere_place, element, within, place_by}
-use Rattle.lv_ast.specs.declared.expr.Expr.TheOpen.{Expr-F, Select-F}
-use Rattle.lv_ast.specs.declared.expr.Literal.{Literal}
+use Rattle.lv_ast.specs.declared.expr.Expr.TheOpen.{Expr-F}
 use Rattle.lv_ast.specs.Names.{Names, Declared, Valuation, known}
-use Rattle.lv_ast.specs.Values.{Meaning, nowhere, size_of, literal, plain, one_bit, unary, binary, shift, arithmetic, logical, compared, chosen, concatenated, replicated, cast, divided, quotient, remainder, wrapped, own_value, joined, repeated, widths}
+use Rattle.lv_ast.specs.Values.{Meaning, nowhere, size_of, plain, one_bit, shift, arithmetic, logical, compared, chosen, quotient, remainder, wrapped, own_value, joined, repeated, widths}
 use Rattle.lv_ast.specs.Places.{Place, place_of, bits_of, read_bits, held, read, bit_selects, all_bits, bits_from}
-use Rattle.lv_ast.specs.Meaning.{Reading, Choice, reading, meanings, named, meant, read_step, choice, read_expr}
+use Rattle.lv_ast.specs.Meaning.{Reading, Choice, meanings, named, meant, read_step, choice, read_expr}
 use Rattle.lv_source.proofs.Each.{Each}
-use Rattle.lv_source.proofs.Induction.{Below, Inside, of_expr}
+use Rattle.lv_source.proofs.Induction.{Below, of_expr}
 
 pub record Fits (m : Meaning) : Type 0 where
   pub fits : (W : ℕ) (T : Bool) (v : Valuation) → m.width ≤ W → m.value W T v < 2 ^ W

@@ -1,27 +1,26 @@
 -- Each statement takes one of its paths, the same one wherever what it reads is the same.
-use Rattle.std.proofs.Common.{◌≡◌, ◌⊎◌, inl, inr, ℕ, Bool, true, false, ◌&&◌, ◌||◌, ◌==◌, not, List, [], ◌∷◌, ◌++◌, map, refl, sym, ap, ◌∙◌, subst, Option, Some, None}
-use Rattle.std.specs.Prelude.{flat_map, if◌then◌else◌, filter}
-use Rattle.std.specs.List.{list_any, list_all}
+use Rattle.std.proofs.Common.{◌≡◌, inl, inr, ℕ, Bool, true, false, ◌&&◌, ◌==◌, not, List, [], ◌∷◌, ◌++◌, map, refl, sym, ap, subst, Option, Some, None}
+use Rattle.std.specs.Prelude.{flat_map}
+use Rattle.std.specs.List.{list_any}
 use Rattle.lv_ast.specs.declared.expr.Expr.{Expr}
-use Rattle.lv_ast.specs.declared.stmt.Ident.{Ident}
 use Rattle.lv_ast.specs.declared.stmt.Target.{Target}
 use Rattle.lv_ast.specs.declared.stmt.Stmt.{Stmt, Row_of-Stmt, end_of-Stmt, more_of-Stmt, Row_of-Arm, end_of-Arm, more_of-Arm, Held-Stmt-If-2, None', Some'}
 use Rattle.lv_ast.specs.declared.stmt.Stmt.TheVariants as b
 use Rattle.lv_ast.specs.declared.stmt.Stmt.TheOpen.{Stmt-F}
 use Rattle.lv_ast.specs.Trees.{fold_stmt, fold_stmts, fold_one_stmt, fold_held, fold_arms}
 use Rattle.lv_ast.specs.Names.{Names, Valuation}
-use Rattle.lv_ast.specs.Values.{Meaning, nowhere, own_value}
-use Rattle.lv_ast.specs.Places.{Bit, bit_at, has_bit, same_bit}
-use Rattle.lv_ast.specs.Meaning.{Reading, read_expr, meaning, constant_value, all_constant}
+use Rattle.lv_ast.specs.Values.{nowhere}
+use Rattle.lv_ast.specs.Places.{Bit, has_bit}
+use Rattle.lv_ast.specs.Meaning.{Reading, read_expr, meaning, constant_value}
 use Rattle.lv_ast.specs.Effect.{State, Effect, ArmOf, Piece, pieces, effect_step, arm_step, executes, in_order, each_turn, otherwise, is_set, arm_taken, is_default, all_labels, common, is_match, unchanged, case_effect, with_index, turns}
-use Rattle.lv_source.specs.Flow.{Event, event_surely, writes_of, Flow, Flows, still, one, then_flow, all_flows, looks, writes, branches, flow_or, flow_step, flow, no_match, is_full, case_flow}
-use Rattle.lv_source.proofs.Each.{Each, Pairs, each-left, each-right, each-join, some-left, some-right}
+use Rattle.lv_source.specs.Flow.{Event, event_surely, Flow, Flows, one, all_flows, branches, flow_or, flow_step, flow, no_match, is_full, case_flow}
+use Rattle.lv_source.proofs.Each.{Each, Pairs, each-left, each-right, each-join, some-left}
 use Rattle.lv_source.proofs.Each.{Some' as Somewhere}
-use Rattle.lv_source.proofs.Tests.{or-split, or-left, or-right, or-none_left, or-none_right, decide}
+use Rattle.lv_source.proofs.Tests.{or-split, decide}
 use Rattle.lv_source.proofs.Faithful.{Same, same-left, same-right, Equal}
 use Rattle.lv_source.proofs.Readings.{faithful}
 use Rattle.lv_source.proofs.Pieces.{pieces_faithful, put, put_settles, target_reads}
-use Rattle.lv_source.proofs.Runs.{grow, ReadsIn, Covered, After, Any, NoneOf, Outcome, Runs, still-runs, then-runs, look-runs, either-some, either-inside, either-run, none-left, none-right}
+use Rattle.lv_source.proofs.Runs.{ReadsIn, Covered, Any, NoneOf, Outcome, Runs, still-runs, then-runs, look-runs, either-some, either-inside, either-run, none-left, none-right}
 use Rattle.lv_source.proofs.Cases.{Rel, SameArm, EqualLabel, label_reads, read_labels, any_match_equal, full_fits, labels_equal, arm_paths, taken}
 
 covered_same : (A : Bit → Bool) (bs : List Bit) (v w : Valuation) → Same A v w → ReadsIn A bs → Same (has_bit bs) v w

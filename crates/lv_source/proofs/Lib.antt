@@ -1,5 +1,6 @@
 pub mod Blocks
 pub mod Build
+pub mod Carried
 pub mod Cases
 pub mod Chains
 pub mod DesignA

@@ -1,26 +1,24 @@
 -- Targets: what they name depends on the bits that their indices read, and an assignment settles what it writes for sure.
-use Rattle.std.proofs.Common.{◌≡◌, ◌⊎◌, inl, inr, ℕ, max, ◌%◌, ◌^◌, Bool, true, false, ◌&&◌, ◌||◌, List, [], ◌∷◌, ◌++◌, map, refl, sym, ap, ◌∙◌, Option, Some, None}
+use Rattle.std.proofs.Common.{◌≡◌, inl, inr, ℕ, max, ◌%◌, ◌^◌, Bool, true, false, List, [], ◌∷◌, ◌++◌, map, refl, sym, ap, ◌∙◌, Option, Some, None}
 use Rattle.std.specs.Prelude.{flat_map, if◌then◌else◌, filter, cond}
-use Rattle.std.specs.List.{list_any, list_all}
-use Rattle.lv_ast.specs.declared.expr.Expr.{Expr, Row_of-Select, end_of-Select, more_of-Select}
+use Rattle.lv_ast.specs.declared.expr.Expr.{Expr}
 use Rattle.lv_ast.specs.declared.expr.Expr.TheOpen.{Expr-F, Select-F}
-use Rattle.lv_ast.specs.declared.expr.Path.{Path}
 use Rattle.lv_ast.specs.declared.expr.Select.{Select}
 use Rattle.lv_ast.specs.declared.stmt.Target.{Target, Row_of-Target, end_of-Target, more_of-Target}
 use Rattle.lv_ast.specs.declared.stmt.Target.TheVariants as t
 use Rattle.lv_ast.specs.Trees.{fold_targets}
 use Rattle.lv_ast.specs.Names.{Names, Declared, Valuation, known, is_signal_sort}
-use Rattle.lv_ast.specs.Values.{Meaning, nowhere}
+use Rattle.lv_ast.specs.Values.{nowhere}
 use Rattle.lv_ast.specs.Places.{Bit, Place, bit_at, has_bit, same_bit, place_bits, place_of, whole}
-use Rattle.lv_ast.specs.Meaning.{Reading, Choice, bits_named, index_reads, all_constant, meant, read_expr, read_select, read_step}
+use Rattle.lv_ast.specs.Meaning.{Reading, Choice, bits_named, index_reads, all_constant, meant, read_select}
 use Rattle.lv_ast.specs.Effect.{Piece, pieces, piece_step, piece_place, places, bits_in, write_all, assigned}
 use Rattle.lv_source.specs.Flow.{writes_of}
 use Rattle.lv_source.specs.Parts.{Sink, sink_step, read_choice, read_layer, join_targets, as_target}
 use Rattle.lv_source.proofs.Each.{Each, each-join}
-use Rattle.lv_source.proofs.Tests.{or-split, any-left, any-right, any-split, decide}
+use Rattle.lv_source.proofs.Tests.{any-left, any-right, any-split}
 use Rattle.lv_source.proofs.Induction.{Below, Inside, of_expr}
-use Rattle.lv_source.proofs.Faithful.{Same, same-left, same-right, Equal, Faithful, FaithfulChoice, EqualChoice, place_equal, choices_fixed, choices_equal}
-use Rattle.lv_source.proofs.Readings.{faithful, faithful_choice, node}
+use Rattle.lv_source.proofs.Faithful.{Same, same-left, same-right, Faithful, FaithfulChoice, place_equal, choices_fixed, choices_equal}
+use Rattle.lv_source.proofs.Readings.{faithful_choice, node}
 use Rattle.lv_source.proofs.Writes.{Settles, all_bits_of, writes_settle}
 
 abbrev pub FaithfulPiece : Piece → Type 0

@@ -1,5 +1,5 @@
 -- The readings and targets that the parts of a design have are those of expressions.
-use Rattle.std.proofs.Common.{◌≡◌, Bool, true, false, List, [], ◌∷◌, ◌++◌, map, refl, Option, Some, None}
+use Rattle.std.proofs.Common.{Bool, true, false, List, [], ◌∷◌, map, Option, Some, None}
 use Rattle.std.specs.Prelude.{flat_map, if◌then◌else◌}
 use Rattle.lv_ast.specs.declared.expr.Expr.{Expr}
 use Rattle.lv_ast.specs.declared.expr.Expr.TheOpen.{Expr-F}
@@ -10,14 +10,13 @@ use Rattle.lv_ast.specs.declared.item.Continuous.{Continuous}
 use Rattle.lv_ast.specs.declared.item.NetName.{NetName}
 use Rattle.lv_ast.specs.declared.item.Conn.{Conn}
 use Rattle.lv_ast.specs.declared.item.Inst.{Inst}
-use Rattle.lv_ast.specs.declared.item.Module.{Module}
 use Rattle.lv_ast.specs.declared.item.Source.{Source}
 use Rattle.lv_ast.specs.declared.item.Watch.{Watch}
 use Rattle.lv_ast.specs.declared.item.Watch.TheVariants as w
-use Rattle.lv_ast.specs.Names.{Name, Names, known, alone}
+use Rattle.lv_ast.specs.Names.{Name, Names, alone}
 use Rattle.lv_ast.specs.Meaning.{Reading, read_expr}
 use Rattle.lv_ast.specs.Effect.{Piece, pieces}
-use Rattle.lv_source.specs.Scopes.{Scope, Link, is_clock, module_named, instance_scopes}
+use Rattle.lv_source.specs.Scopes.{Scope, Link, module_named, instance_scopes}
 use Rattle.lv_source.specs.Parts.{Design, Part, Body, Assign, Comb, Clocked, part, net_part, output_part, link_body, link_part, instance_parts, always_body, item_parts, scope_parts, parts, scopes, whole_piece, whole_value, as_target, links_to, option_list}
 use Rattle.lv_source.proofs.Each.{Each, each-join}
 use Rattle.lv_source.proofs.Faithful.{Faithful}

@@ -1,17 +1,16 @@
 -- The value of an expression depends on the bits that it reads alone, and that of a constant one on nothing.
-use Rattle.std.proofs.Common.{◌≡◌, ◌⊎◌, inl, inr, ℕ, max, Bool, true, false, ◌&&◌, ◌||◌, List, [], ◌∷◌, ◌++◌, map, refl, sym, ap, ◌∙◌}
+use Rattle.std.proofs.Common.{◌≡◌, Bool, true, false, ◌&&◌, List, [], ◌∷◌, ◌++◌, map, refl, ap, ◌∙◌}
 use Rattle.std.specs.Prelude.{if◌then◌else◌}
-use Rattle.std.specs.List.{list_all}
 use Rattle.lv_bits.specs.Values.{keeps_width, is_apart}
 use Rattle.lv_ast.specs.declared.expr.Expr.{Expr}
 use Rattle.lv_ast.specs.declared.expr.Expr.TheOpen.{Expr-F, Select-F}
 use Rattle.lv_ast.specs.declared.expr.Select.{Select}
 use Rattle.lv_ast.specs.Names.{Names, Declared, Valuation, Sort, Input, Net, Variable, Clock, Constant, Index, Other, known, is_constant_sort, is_signal_sort}
-use Rattle.lv_ast.specs.Values.{Meaning, nowhere, literal, unary, binary, chosen, concatenated, replicated, cast, divided, quotient, remainder, own_value}
+use Rattle.lv_ast.specs.Values.{nowhere, literal, unary, binary, chosen, concatenated, replicated, cast, divided, quotient, remainder, own_value}
 use Rattle.lv_ast.specs.Places.{Bit, Place, has_bit, place_bits, place_of, held, read, whole}
-use Rattle.lv_ast.specs.Meaning.{Reading, Choice, reading, meanings, named, bits_named, index_reads, all_constant, meant, parts_of, read_step, choice, read_expr, read_select}
+use Rattle.lv_ast.specs.Meaning.{Reading, Choice, meanings, named, bits_named, index_reads, all_constant, meant, read_step, choice, read_expr, read_select}
 use Rattle.lv_source.proofs.Each.{Each}
-use Rattle.lv_source.proofs.Tests.{and-left, and-right, decide}
+use Rattle.lv_source.proofs.Tests.{and-left, and-right}
 use Rattle.lv_source.proofs.Induction.{Below, Inside, of_expr, of_select}
 use Rattle.lv_source.proofs.Within.{place_within}
 use Rattle.lv_source.proofs.Faithful.{Same, same-left, same-right, Equal, Faithful, FaithfulChoice, EqualChoice, unary_equal, binary_equal, divided_equal, chosen_equal, joined_equal, replicated_equal, plain_equal, reading_faithful, place_equal, choices_fixed, choices_equal, read_equal}

@@ -10,22 +10,18 @@ use Rattle.lv_source.specs.Standing.{standing}
 use Rattle.std.specs.Prelude.{◌≡◌, ℕ, true, false, List, [], ◌∷◌, map, Some, None, codes, refl, ◌+◌}
 use Rattle.std.specs.List.{list_all}
 use Rattle.lv_bits.specs.declared.op.Op.TheVariants as o
-use Rattle.lv_ast.specs.declared.expr.Expr.{Expr, end_of-Expr, more_of-Expr, end_of-Select}
+use Rattle.lv_ast.specs.declared.expr.Expr.{Expr, end_of-Select}
 use Rattle.lv_ast.specs.declared.expr.Expr.TheVariants as e
 use Rattle.lv_ast.specs.declared.stmt.Stmt.TheVariants as b
 use Rattle.lv_ast.specs.declared.stmt.Stmt.{Stmt}
 use Rattle.lv_ast.specs.declared.item.Item.{Item}
 use Rattle.lv_ast.specs.declared.item.Item.TheVariants as i
 use Rattle.lv_ast.specs.declared.item.Module.{Module}
-use Rattle.lv_ast.specs.declared.item.Params.{Params}
 use Rattle.lv_ast.specs.declared.item.Conn.{Conn}
-use Rattle.lv_ast.specs.declared.item.Ports.TheVariants as p
-use Rattle.lv_ast.specs.Names.{Names, width_of}
-use Rattle.lv_ast.specs.Meaning.{constant_value}
-use Rattle.lv_source.specs.Parts.{drives, Design, parts, scopes, signals, registers, inputs, after}
+use Rattle.lv_source.specs.Parts.{drives, Design, parts, registers}
 use Rattle.lv_source.specs.Legal.{Kind, Blocking, Latch, UnknownModule, UnknownName, Duplicate, NotConstant, ZeroDivisor, Recursion, Port, WrongKind, ClockUse, Nonblocking, TwoDrivers, Undriven, ReadFirst, Range}
 use Rattle.lv_source.specs.PartRules.{is_cycle}
-use Rattle.lv_ast.proofs.Build.{id, name, bin, un, cat, to, to_bits, bit, slice, chosen, plain, sized, bits, block, input, output, output_reg, assign, module_of, clk, always_star, at_clock, reg, wire, wire_with, valued, turns_of, loop_of, linked, case_of}
+use Rattle.lv_ast.proofs.Build.{id, name, bin, un, cat, to, to_bits, bit, slice, chosen, plain, sized, bits, block, input, output, assign, module_of, clk, always_star, at_clock, reg, wire, loop_of, linked, case_of}
 use Rattle.lv_source.proofs.Build.{design_t, refused, told_at, is_empty}
 
 use Rattle.lv_source.proofs.Hierarchy.{divided_by, parameter_n, module_s}

@@ -1,5 +1,5 @@
 -- The list of all refusals has each kind exactly where it holds.
-use Rattle.std.proofs.Common.{◌≡◌, ◌⊎◌, inl, inr, ℕ, zero, suc, ◌+◌, ◌<◌, List, [], ◌∷◌, ◌++◌, length, map, refl, sym, ap, ◌∙◌, subst, arith}
+use Rattle.std.proofs.Common.{◌≡◌, ◌⊎◌, inl, inr, ℕ, zero, suc, ◌<◌, List, [], ◌∷◌, ◌++◌, length, map, refl, sym, ap, subst, arith}
 use Rattle.std.specs.Prelude.{flat_map, Contains, ◌↔◌}
 use Rattle.std.specs.List.{slice_index_or}
 use Rattle.lv_source.specs.Parts.{Design, At}

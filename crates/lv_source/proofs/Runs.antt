@@ -1,13 +1,13 @@
 -- A statement, executed on two valuations that share what it reads, takes one of its paths in both, and leaves them alike where that path writes for sure.
-use Rattle.std.proofs.Common.{◌≡◌, ◌⊎◌, inl, inr, ℕ, Bool, true, false, ◌&&◌, ◌||◌, not, List, [], ◌∷◌, ◌++◌, map, refl, sym, ap, ◌∙◌, subst, Option, Some, None}
-use Rattle.std.specs.Prelude.{flat_map, if◌then◌else◌, filter}
-use Rattle.std.specs.List.{list_any, list_all}
-use Rattle.lv_ast.specs.Names.{Names, Valuation}
-use Rattle.lv_ast.specs.Places.{Bit, bit_at, has_bit, same_bit}
-use Rattle.lv_ast.specs.Effect.{State, Effect, ArmOf, in_order, each_turn}
-use Rattle.lv_source.specs.Flow.{Event, event_surely, writes_of, Flow, Flows, still, one, then_flow, either_flow, all_flows, looks, branches, surely}
-use Rattle.lv_source.proofs.Each.{Each, Some', each-left, each-right, each-join, each-map, each-unmap, each-imp, some-left, some-right, some-map, some-imp}
-use Rattle.lv_source.proofs.Tests.{or-split, or-left, or-right, or-none_left, or-none_right, any-left, any-right, any-split}
+use Rattle.std.proofs.Common.{◌≡◌, inl, inr, Bool, true, false, ◌||◌, List, [], ◌∷◌, ◌++◌, map, refl, ap, ◌∙◌}
+use Rattle.std.specs.Prelude.{flat_map, if◌then◌else◌}
+use Rattle.std.specs.List.{list_any}
+use Rattle.lv_ast.specs.Names.{Valuation}
+use Rattle.lv_ast.specs.Places.{Bit, has_bit, same_bit}
+use Rattle.lv_ast.specs.Effect.{State}
+use Rattle.lv_source.specs.Flow.{Event, event_surely, Flow, still, then_flow, either_flow, looks, surely}
+use Rattle.lv_source.proofs.Each.{Each, Some', each-left, each-right, each-join, each-unmap, each-imp, some-left, some-right, some-map, some-imp}
+use Rattle.lv_source.proofs.Tests.{or-split, or-left, or-right, or-none_left, or-none_right, any-split}
 use Rattle.lv_source.proofs.Faithful.{Same}
 
 -- ---- what is known along a path

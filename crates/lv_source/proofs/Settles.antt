@@ -1,5 +1,5 @@
 -- A combinational block leaves, on the bits that it drives, what the bits that it reads and doesn't drive determine.
-use Rattle.std.proofs.Common.{◌≡◌, ◌⊎◌, inl, inr, ℕ, Bool, true, false, ◌&&◌, ◌||◌, not, List, [], ◌∷◌, ◌++◌, map, refl, sym, ap, ◌∙◌, subst}
+use Rattle.std.proofs.Common.{◌≡◌, inl, inr, Bool, true, false, ◌&&◌, ◌||◌, not, List, [], ◌∷◌, ◌++◌, refl, sym, ap, ◌∙◌}
 use Rattle.std.specs.Prelude.{flat_map}
 use Rattle.std.specs.List.{list_any}
 use Rattle.lv_ast.specs.declared.stmt.Stmt.{Stmt}
@@ -8,9 +8,9 @@ use Rattle.lv_ast.specs.Places.{Bit, bit_at, has_bit, same_bit}
 use Rattle.lv_ast.specs.Effect.{State, Update, executes, applied, left_by}
 use Rattle.lv_source.specs.Flow.{Event, event_surely, Flow, flow, block_writes, block_reads, surely, is_latch, reads_first, is_read_first}
 use Rattle.lv_source.proofs.Each.{Each, Some'}
-use Rattle.lv_source.proofs.Tests.{and-both, or-split, or-left, or-right, or-none_left, or-none_right, any-split, decide, same_bits, not-false, not-true}
+use Rattle.lv_source.proofs.Tests.{and-both, or-split, or-left, or-right, or-none_left, or-none_right, any-split, decide, same_bits, not-false}
 use Rattle.lv_source.proofs.Faithful.{Same}
-use Rattle.lv_source.proofs.Runs.{grow, ReadsIn, Covered, After, NoneOf, Outcome, Runs, after-surely, none-left, none-right}
+use Rattle.lv_source.proofs.Runs.{Covered, After, NoneOf, Outcome, after-surely, none-left, none-right}
 use Rattle.lv_source.proofs.Follows.{follows}
 
 -- ---- lists

@@ -1,6 +1,6 @@
 -- A legal source has at most one settled valuation for each state and input.
-use Rattle.std.proofs.Common.{◌≡◌, ◌⊎◌, inl, inr, ℕ, zero, suc, ◌+◌, ◌/◌, ◌%◌, ◌^◌, ◌<◌, ◌≤◌, Bool, true, false, ◌&&◌, ◌||◌, ◌==◌, not, List, [], ◌∷◌, ◌++◌, length, map, refl, sym, ap, ◌∙◌, subst, arith, Option, Some, None}
-use Rattle.std.specs.Prelude.{flat_map, filter, cond, slice_get, if◌then◌else◌, bytes_eq, All}
+use Rattle.std.proofs.Common.{◌≡◌, ◌⊎◌, inl, inr, ℕ, zero, suc, ◌+◌, ◌/◌, ◌%◌, ◌^◌, ◌<◌, ◌≤◌, Bool, true, false, ◌&&◌, ◌||◌, ◌==◌, not, List, [], ◌∷◌, ◌++◌, length, refl, sym, ap, ◌∙◌, arith, Some, None}
+use Rattle.std.specs.Prelude.{flat_map, filter, cond, slice_get, if◌then◌else◌, bytes_eq}
 use Rattle.std.specs.List.{list_any, list_all}
 use Rattle.std.proofs.lemmas.Bool.{cases_lt, eqb-true}
 use Rattle.std.proofs.lemmas.Nat.Bits.{same_from_bits, bit_at_above}
@@ -10,18 +10,18 @@ use Rattle.lv_ast.specs.Names.{Name, Declared, Valuation, width_of, is_variable_
 use Rattle.lv_ast.specs.Places.{Bit, bit_at, has_bit, same_bit, whole, cells}
 use Rattle.lv_ast.specs.Meaning.{all_constant}
 use Rattle.lv_ast.specs.Effect.{Piece}
-use Rattle.lv_source.specs.Flow.{flow, writes_of, block_writes, block_reads}
+use Rattle.lv_source.specs.Flow.{writes_of}
 use Rattle.lv_source.specs.Parts.{Design, Part, At, Body, Assign, Comb, Clocked, parts, signals, inputs, registers, is_clocked, is_comb, drives, reads, driven_by, read_by, after, is_register, is_wired, width_from, width_at}
-use Rattle.lv_source.specs.Settled.{IsSettled, SameOn, SameInputs, idle_bits}
+use Rattle.lv_source.specs.Settled.{IsSettled, SameOn, SameInputs}
 use Rattle.lv_source.specs.PartRules as r
 use Rattle.lv_source.specs.ScopeRules.{same_sign}
 use Rattle.lv_source.specs.Legal.{IsLegal}
 use Rattle.lv_source.proofs.Each.{Each, each-join}
-use Rattle.lv_source.proofs.Tests.{and-left, and-right, and-both, or-split, or-left, or-right, or-none_left, or-none_right, any-left, any-right, decide, not-true, not-false, any-split, has-head, same_bits}
+use Rattle.lv_source.proofs.Tests.{and-left, and-right, and-both, or-split, or-left, or-right, or-none_right, decide, not-true, not-false, has-head, same_bits}
 use Rattle.lv_source.proofs.Faithful.{Same}
 use Rattle.lv_source.proofs.Within.{cells_have}
 use Rattle.lv_source.proofs.Pieces.{put_settles, target_reads}
-use Rattle.lv_source.proofs.Settles.{block_settles, none_has}
+use Rattle.lv_source.proofs.Settles.{block_settles}
 use Rattle.lv_source.proofs.Provenance.{FaithfulBody, FaithfulPart, parts_faithful}
 use Rattle.lv_source.proofs.Chains.{few, distinct-more, Way, way-more, circle}
 use Rattle.lv_source.proofs.Facts.{some_same, any_at, at_any, at_below, each_at, all_at, all_bits, all_names, cells_any, whole_any, no_latch, no_read_first, no_nonblocking, no_unfixed, no_wrong_kind, no_undriven, no_mixed}

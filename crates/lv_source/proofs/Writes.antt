@@ -1,7 +1,6 @@
 -- What writing the same bits leaves of two valuations.
-use Rattle.std.proofs.Common.{◌≡◌, ◌≢◌, ◌⊎◌, inl, inr, ℕ, zero, suc, ◌+◌, ◌-◌, ◌*◌, ◌/◌, ◌%◌, ◌^◌, ◌<◌, ◌≤◌, Bool, true, false, ◌&&◌, ◌||◌, ◌==◌, List, [], ◌∷◌, ◌++◌, length, map, refl, sym, ap, ◌∙◌, arith, subst, Option, Some, None}
+use Rattle.std.proofs.Common.{◌≡◌, ◌⊎◌, inl, inr, ℕ, suc, ◌+◌, ◌-◌, ◌*◌, ◌/◌, ◌%◌, ◌^◌, ◌<◌, ◌≤◌, true, false, ◌==◌, List, [], ◌∷◌, length, refl, sym, ap, ◌∙◌, arith, subst, Option, Some, None}
 use Rattle.std.specs.Prelude.{flat_map, bytes_eq, if◌then◌else◌}
-use Rattle.std.specs.List.{list_any}
 use Rattle.std.proofs.lemmas.Bool.{eqb-true, eq-eqb, cases_lt}
 use Rattle.std.proofs.lemmas.Nat.{pow_pos, shr_split}
 use Rattle.std.proofs.lemmas.Nat.Bits.{bit_at_cat_low, bit_at_cat_high, bit_at-suc}
@@ -9,7 +8,7 @@ use Rattle.std.proofs.lemmas.Nat.{pow-add}
 use Rattle.lv_ast.specs.Names.{Name, Valuation}
 use Rattle.lv_ast.specs.Places.{Bit, Place, bit_at, has_bit, same_bit, some_bit, place_bits, set_bit, write_bits, write}
 use Rattle.lv_ast.specs.Effect.{write_all, bits_in}
-use Rattle.lv_source.proofs.Tests.{or-split, and-left, and-right, any-left, any-right, any-split, same_name, name-itself, same_bits}
+use Rattle.lv_source.proofs.Tests.{or-split, and-left, and-right, any-split, same_name, name-itself}
 
 abbrev bit_of : ℕ → ℕ → ℕ
 bit_of a j = a / 2 ^ j % 2

@@ -1,5 +1,5 @@
 -- The sizes of a design that have limits.
-use Rattle.std.specs.Prelude.{ℕ, suc, ◌+◌, ◌≤◌, List, [], ◌∷◌, ◌++◌, map, length, sum, Option, Some, None, flat_map}
+use Rattle.std.specs.Prelude.{ℕ, suc, ◌+◌, ◌≤◌, List, [], ◌∷◌, ◌++◌, map, length, sum, Option, Some, None}
 use Rattle.lv_ast.specs.declared.expr.Expr.{Expr}
 use Rattle.lv_ast.specs.declared.expr.Expr.TheOpen.{Expr-F, Select-F}
 use Rattle.lv_ast.specs.declared.stmt.Target.{Target}

@@ -16,7 +16,7 @@ use Rattle.lv_ast.specs.declared.item.Item.{Item}
 use Rattle.lv_ast.specs.declared.item.Item.TheVariants as i
 use Rattle.lv_ast.specs.declared.item.Ports.TheVariants as p
 use Rattle.lv_ast.specs.Names.{Valuation}
-use Rattle.lv_source.specs.Parts.{Design, parts, registers, inputs, after}
+use Rattle.lv_source.specs.Parts.{Design, parts, registers_of, inputs_of, after}
 use Rattle.lv_source.specs.Settled.{next_bit, idle_bits}
 use Rattle.lv_source.specs.Legal.{Latch, Port}
 use Rattle.lv_ast.proofs.Build.{id, name, bin, to, to_bits, bit, chosen, plain, sized, wild, bits, block, case_of, input, output, output_reg, assign, module_of, clk, always_star, at_clock, reg, wire, valued, loop_of, cat, down}
@@ -43,7 +43,7 @@ default_is_legal : refused (cases (arm 0 0 ∷ ([], b.Now (to (codes "y")) (size
 unfolding read_expr read_select pieces executes turns turns_from flow labels as_target walk walk_select target_sites standing digits
 default_is_legal = refl
 
-no_registers : registers (cases (arm 0 0 ∷ [])) ≡ []
+no_registers : registers_of (cases (arm 0 0 ∷ [])) ≡ []
 unfolding read_expr read_select pieces executes turns turns_from flow labels as_target walk walk_select target_sites standing digits
 no_registers = refl
 
@@ -76,11 +76,11 @@ memory = design_t (module_of (codes "t") (clk ∷ input (codes "a") 26 (Some (bi
     (reg (codes "m") 60 (Some (bits 7 0)) (Some (bits 0 3)) ∷ assign (to (codes "y")) (chosen (codes "m") (bit (name (codes "a")) ∷ [])) 80 ∷
     at_clock (b.Later (to_bits (codes "m") (bit (name (codes "a")) ∷ [])) (name (codes "d")) 99) 90 ∷ []) ∷ [])
 
-memory_registers : registers memory ≡ codes "m[0]" ∷ codes "m[1]" ∷ codes "m[2]" ∷ codes "m[3]" ∷ []
+memory_registers : registers_of memory ≡ codes "m[0]" ∷ codes "m[1]" ∷ codes "m[2]" ∷ codes "m[3]" ∷ []
 unfolding read_expr read_select pieces executes turns turns_from flow labels as_target walk walk_select target_sites standing digits
 memory_registers = refl
 
-memory_inputs : inputs memory ≡ codes "a" ∷ codes "d" ∷ []
+memory_inputs : inputs_of memory ≡ codes "a" ∷ codes "d" ∷ []
 unfolding read_expr read_select pieces executes turns turns_from flow labels as_target walk walk_select target_sites standing digits
 memory_inputs = refl
 
@@ -201,7 +201,7 @@ listed_is_legal : refused (listed directions) ≡ []
 unfolding read_expr read_select pieces executes turns turns_from flow labels as_target walk walk_select target_sites standing digits
 listed_is_legal = refl
 
-listed_inputs : inputs (listed directions) ≡ codes "a" ∷ []
+listed_inputs : inputs_of (listed directions) ≡ codes "a" ∷ []
 unfolding read_expr read_select pieces executes turns turns_from flow labels as_target walk walk_select target_sites standing digits
 listed_inputs = refl
 

@@ -17,7 +17,6 @@ use Rattle.lv_source.specs.Parts.{Design, parts, after}
 use Rattle.lv_source.specs.Legal.{Latch}
 use Rattle.lv_ast.proofs.Build.{name, bin, to, sized, bits, case_of, input, output_reg, module_of, clk, always_star, valued}
 use Rattle.lv_source.proofs.Build.{design_t, refused}
-
 use Rattle.std.proofs.Common.{◌<◌, ◌^◌, ◌||◌, Bool, false, arith, sym, subst}
 use Rattle.std.specs.Prelude.{if◌then◌else◌, bytes_eq, ◌==◌}
 use Rattle.std.specs.List.{list_all, list_any, range_with_len}

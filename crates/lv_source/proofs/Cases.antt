@@ -41,18 +41,20 @@ any_match_equal names v w wild c y z (l ∷ ls) h k =
 
 fixed_labels : (names : Names) (v w : Valuation) (ls : List Expr) → list_all (λ l. (read_expr names l).constant) ls ≡ true → Each (EqualLabel names v w) ls
 fixed_labels names v w [] h = tt
-fixed_labels names v w (l ∷ ls) h =
-    ((faithful names l).fixed (and-left (read_expr names l).constant (list_all (λ l. (read_expr names l).constant) ls) h) v w,
-    fixed_labels names v w ls (and-right (read_expr names l).constant (list_all (λ l. (read_expr names l).constant) ls) h))
+fixed_labels names v w (l ∷ ls) h = (
+  (faithful names l).fixed (and-left (read_expr names l).constant (list_all (λ l. (read_expr names l).constant) ls) h) v w,
+  fixed_labels names v w ls (and-right (read_expr names l).constant (list_all (λ l. (read_expr names l).constant) ls) h),
+)
 
 abbrev pub label_reads : Names → List Expr → List Bit
 label_reads names ls = flat_map (λ l. (read_expr names l).reads) ls
 
 pub read_labels : (names : Names) (v w : Valuation) (ls : List Expr) → Same (has_bit (label_reads names ls)) v w → Each (EqualLabel names v w) ls
 read_labels names v w [] h = tt
-read_labels names v w (l ∷ ls) h =
-    ((faithful names l).same v w (same-left (read_expr names l).reads (label_reads names ls) v w h),
-    read_labels names v w ls (same-right (read_expr names l).reads (label_reads names ls) v w h))
+read_labels names v w (l ∷ ls) h = (
+  (faithful names l).same v w (same-left (read_expr names l).reads (label_reads names ls) v w h),
+  read_labels names v w ls (same-right (read_expr names l).reads (label_reads names ls) v w h),
+)
 
 -- ---- full labels
 
@@ -175,12 +177,12 @@ module _ (names : Names) (A : Bit → Bool) (s t : State) (same : Same A s.valua
       one_arm (Ends ((here ++ rest) ++ ds)) names s t (list_any f a.labels) (list_any g a.labels) (is_default a.labels) (le ∙ (k.0 ∙ lg)) a.body d (arm_taken f es) (arm_taken g es)
       (λ e. move here ((here ++ rest) ++ ds) (a.body names s) (a.body names t) (λ m. some-left _ (here ++ rest) ds (some-left _ here rest m)) own)
       (λ e i. (let o' : Ends (rest ++ here) (arm_taken f es a.body names s) (arm_taken g es a.body names t) =
-              taken es bs h.1 k.1 a.body here (λ n m. own) (each-join (Covered A) rest here later first) in
-          move (rest ++ here) ((here ++ rest) ++ ds) (arm_taken f es a.body names s) (arm_taken g es a.body names t)
-          (λ m. some-left _ (here ++ rest) ds (elim (some-split _ rest here m) [ inl j ↦ some-right _ here rest j | inr j ↦ some-left _ here rest j ])) o'))
+      taken es bs h.1 k.1 a.body here (λ n m. own) (each-join (Covered A) rest here later first) in
+      move (rest ++ here) ((here ++ rest) ++ ds) (arm_taken f es a.body names s) (arm_taken g es a.body names t)
+      (λ m. some-left _ (here ++ rest) ds (elim (some-split _ rest here m) [ inl j ↦ some-right _ here rest j | inr j ↦ some-left _ here rest j ])) o'))
       (λ e i. (let o' : Ends (rest ++ ds) (arm_taken f es d names s) (arm_taken g es d names t) =
-              taken es bs h.1 k.1 d ds
-              (λ n m. o (ap (λ c. c || list_any (λ b. is_default b.labels) bs) (sym ld ∙ i) ∙ n) (any-none f b.labels (all_labels bs) (sym le ∙ e) m))
-              (each-join (Covered A) rest ds later (each-right (Covered A) (here ++ rest) ds c)) in
-          move (rest ++ ds) ((here ++ rest) ++ ds) (arm_taken f es d names s) (arm_taken g es d names t)
-          (λ m. elim (some-split _ rest ds m) [ inl j ↦ some-left _ (here ++ rest) ds (some-right _ here rest j) | inr j ↦ some-right _ (here ++ rest) ds j ]) o'))
+      taken es bs h.1 k.1 d ds
+      (λ n m. o (ap (λ c. c || list_any (λ b. is_default b.labels) bs) (sym ld ∙ i) ∙ n) (any-none f b.labels (all_labels bs) (sym le ∙ e) m))
+      (each-join (Covered A) rest ds later (each-right (Covered A) (here ++ rest) ds c)) in
+      move (rest ++ ds) ((here ++ rest) ++ ds) (arm_taken f es d names s) (arm_taken g es d names t)
+      (λ m. elim (some-split _ rest ds m) [ inl j ↦ some-left _ (here ++ rest) ds (some-right _ here rest j) | inr j ↦ some-right _ (here ++ rest) ds j ]) o'))

@@ -23,9 +23,10 @@ unlike k (x ∷ xs) h = (eqb_sym k x ∙ or-none_left (x == k) (list_any (λ j. 
 distinct_of : (xs : List ℕ) → are_distinct xs ≡ true → IsDistinct (λ a b. a == b) xs
 unfolding IsDistinct
 distinct_of [] h = tt
-distinct_of (x ∷ xs) h =
-    (unlike x xs (not-true (list_any (λ j. j == x) xs) (and-left (not (list_any (λ j. j == x) xs)) (are_distinct xs) h)),
-    distinct_of xs (and-right (not (list_any (λ j. j == x) xs)) (are_distinct xs) h))
+distinct_of (x ∷ xs) h = (
+  unlike x xs (not-true (list_any (λ j. j == x) xs) (and-left (not (list_any (λ j. j == x) xs)) (are_distinct xs) h)),
+  distinct_of xs (and-right (not (list_any (λ j. j == x) xs)) (are_distinct xs) h),
+)
 
 each_below : (n : ℕ) (xs : List ℕ) → Each (λ i. i < n) xs → (q : ℕ) → list_any (λ i. q == i) xs ≡ true → q < n
 each_below n [] h q k = cc

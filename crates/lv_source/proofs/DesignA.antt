@@ -14,7 +14,7 @@ use Rattle.lv_ast.specs.declared.item.Item.TheVariants as i
 use Rattle.lv_ast.specs.declared.item.Watch.TheVariants as w
 use Rattle.lv_ast.specs.declared.item.Ports.TheVariants as p
 use Rattle.lv_ast.specs.declared.item.Module.{Module}
-use Rattle.lv_source.specs.Parts.{Design, signals, registers, inputs, parts, drives, reads}
+use Rattle.lv_source.specs.Parts.{Design, signals_of, registers_of, inputs_of, parts, drives, reads}
 use Rattle.lv_source.specs.Settled.{idle_bits}
 use Rattle.lv_ast.proofs.Build.{id, name, bin, to, input, output_reg}
 
@@ -29,15 +29,15 @@ module_t = record {
 abbrev pub design : Design
 design = record { source = record { modules = module_t ∷ [] }; top = codes "t"; clock = codes "clk" }
 
-signals_are : map (λ s. s.path) (signals design) ≡ codes "d" ∷ codes "q" ∷ []
+signals_are : map (λ s. s.path) (signals_of design) ≡ codes "d" ∷ codes "q" ∷ []
 unfolding read_expr read_select pieces executes turns turns_from flow labels as_target walk walk_select target_sites standing digits
 signals_are = refl
 
-registers_are : registers design ≡ codes "q" ∷ []
+registers_are : registers_of design ≡ codes "q" ∷ []
 unfolding read_expr read_select pieces executes turns turns_from flow labels as_target walk walk_select target_sites standing digits
 registers_are = refl
 
-inputs_are : inputs design ≡ codes "d" ∷ []
+inputs_are : inputs_of design ≡ codes "d" ∷ []
 unfolding read_expr read_select pieces executes turns turns_from flow labels as_target walk walk_select target_sites standing digits
 inputs_are = refl
 

@@ -7,7 +7,7 @@ use Rattle.std.proofs.lemmas.List.Elements.{All-nil, All-cons, All-head, All-tai
 use Rattle.std.proofs.lemmas.Nat.Bits.{same_from_bits, bit_at_above}
 use Rattle.lv_ast.specs.Names.{Name, Valuation}
 use Rattle.lv_ast.specs.Places.{Bit, bit_at, has_bit, bits_below}
-use Rattle.lv_source.specs.Parts.{Design, registers, width_at}
+use Rattle.lv_source.specs.Parts.{Design, registers_of, width_at}
 use Rattle.lv_source.specs.Settled.{IsSettled, Follows, SameOn, SameInputs, NextFollows, IsRun, StartAlike, next_bit}
 use Rattle.lv_source.specs.Legal.{IsLegal}
 use Rattle.lv_source.proofs.Within.{below_has}
@@ -41,8 +41,8 @@ module _ (d : Design) (v w u : Valuation) (sw : IsSettled d w) (su : IsSettled d
       (name_same n (all-left (λ b. bit_at w b ≡ next_bit d v b) (bits_below (width_at d n) n) rest h) (all-left (λ b. bit_at u b ≡ next_bit d v b) (bits_below (width_at d n) n) rest k))
       (names_same ns (all-right (λ b. bit_at w b ≡ next_bit d v b) (bits_below (width_at d n) n) rest h) (all-right (λ b. bit_at u b ≡ next_bit d v b) (bits_below (width_at d n) n) rest k))
 
-pub next_unique : (d : Design) (v w u : Valuation) → IsSettled d w → IsSettled d u → Follows d v w → Follows d v u → SameOn (registers d) w u
-next_unique d v w u sw su h k = names_same d v w u sw su (registers d) h k
+pub next_unique : (d : Design) (v w u : Valuation) → IsSettled d w → IsSettled d u → Follows d v w → Follows d v u → SameOn (registers_of d) w u
+next_unique d v w u sw su h k = names_same d v w u sw su (registers_of d) h k
 
 module _ (d : Design) (legal : IsLegal d) where
   next_alike : (v w : Valuation) (vs ws : List Valuation) → v ≡ w → NextFollows d v vs → NextFollows d w ws → IsRun d vs → IsRun d ws → StartAlike d vs ws

@@ -6,7 +6,7 @@ use Rattle.std.proofs.lemmas.List.Elements.{All-head, All-tail}
 use Rattle.lv_ast.specs.Names.{Name, Declared}
 use Rattle.lv_ast.specs.Places.{Bit, has_bit, same_bit, whole, cells}
 use Rattle.lv_source.specs.Flow.{Event}
-use Rattle.lv_source.specs.Parts.{Design, Part, At, parts, numbered_from, signals, is_comb}
+use Rattle.lv_source.specs.Parts.{Design, Part, At, parts, numbered_from, signals_of, is_comb}
 use Rattle.lv_source.specs.PartRules as r
 use Rattle.lv_source.specs.Legal.{IsLegal, NotConstant, WrongKind, Nonblocking, TwoDrivers, Undriven, Latch, ReadFirst}
 use Rattle.lv_source.proofs.Each.{Each}
@@ -151,7 +151,7 @@ module _ (d : Design) (legal : IsLegal d) (k : ℕ) (p : Part) (e : slice_get (p
   pub no_undriven : r.is_undriven d (parts d) p ≡ false
   no_undriven = told_none (r.is_undriven d (parts d) p) p.at [] (numbered_none (λ kp. r.undriven d (parts d) kp.1) (parts d) 0 (legal.nothing Undriven) k p e).1
 
-  pub no_mixed : list_any (r.is_mixed (parts d) p) (signals d) ≡ false
+  pub no_mixed : list_any (r.is_mixed (parts d) p) (signals_of d) ≡ false
   no_mixed =
       let told : (i : ℕ) × (r.two_drivers d (parts d) i p ≡ []) = numbered_none (λ kp. r.two_drivers d (parts d) kp.0 kp.1) (parts d) 0 (legal.nothing TwoDrivers) k p e in
-      or-none_right _ (list_any (r.is_mixed (parts d) p) (signals d)) (told_none (r.is_two_drivers d (parts d) told.0 p) p.at _ told.1)
+      or-none_right _ (list_any (r.is_mixed (parts d) p) (signals_of d)) (told_none (r.is_two_drivers d (parts d) told.0 p) p.at _ told.1)

@@ -133,9 +133,10 @@ place_equal v w d cs h = place_by_equal v w d.array d cs h
 -- where all is constant
 pub choices_fixed : (v w : Valuation) (cs : List Choice) → Each FaithfulChoice cs → all_constant cs ≡ true → Each (EqualChoice v w) cs
 choices_fixed v w [] h k = tt
-choices_fixed v w (c ∷ cs) h k =
-    (each_fixed v w (parts_of c) h.0 (and-left (list_all (λ (r : Reading). r.constant) (parts_of c)) (all_constant cs) k),
-    choices_fixed v w cs h.1 (and-right (list_all (λ (r : Reading). r.constant) (parts_of c)) (all_constant cs) k))
+choices_fixed v w (c ∷ cs) h k = (
+  each_fixed v w (parts_of c) h.0 (and-left (list_all (λ (r : Reading). r.constant) (parts_of c)) (all_constant cs) k),
+  choices_fixed v w cs h.1 (and-right (list_all (λ (r : Reading). r.constant) (parts_of c)) (all_constant cs) k),
+)
 
 -- where the bits that the indices read are the same
 pub choices_equal : (v w : Valuation) (cs : List Choice) → Each FaithfulChoice cs → Same (has_bit (index_reads cs)) v w → Each (EqualChoice v w) cs

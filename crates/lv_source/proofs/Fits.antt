@@ -247,8 +247,10 @@ node_fits names (Expr-F.Cond c a b) h = chosen_fits c.meaning a.meaning b.meanin
 node_fits names (Expr-F.Cat rs) h = record { fits = λ W T v k. at_more (joined v (meanings rs)) (widths (meanings rs)) W (joined_lt (meanings rs) (meanings_fit rs h) v) k }
 node_fits names (Expr-F.Rep n rs) h =
     let count : ℕ = own_value n.meaning nowhere in
-    record { fits = λ W T v k. at_more (repeated count (widths (meanings rs)) (joined v (meanings rs))) (count * widths (meanings rs)) W
-        (repeated_lt count (widths (meanings rs)) (joined v (meanings rs)) (joined_lt (meanings rs) (meanings_fit rs h.1) v)) k }
+    record {
+      fits = λ W T v k. at_more (repeated count (widths (meanings rs)) (joined v (meanings rs))) (count * widths (meanings rs)) W
+          (repeated_lt count (widths (meanings rs)) (joined v (meanings rs)) (joined_lt (meanings rs) (meanings_fit rs h.1) v)) k;
+    }
 node_fits names (Expr-F.Cast signed a) h = plain_fits a.meaning.width signed (own_value a.meaning) (own_fits a.meaning h)
 
 pub fits : (names : Names) (e : Expr) → Fits (read_expr names e).meaning

@@ -61,9 +61,12 @@ module _ (names : Names) (target : Target) (x : Expr) (place : ℕ) where
     some = inl tt;
     inside = λ q h. single q (event true) h;
     run = λ A s t same cs.
-        (let known : Same (has_bit reads) s.valuation t.valuation = covered_same A reads s.valuation t.valuation same cs.0.0 in
-        (inl (λ b h. put_settles ps (read_expr names x) s.valuation t.valuation (faithful names x) (pieces_faithful names target) known b
-        (elim (or-split (A b) (has_bit (event_surely (event true)) b) h) [ inl k ↦ inl (same b k) | inr k ↦ inr k ])), refl, refl));
+        (let known : Same (has_bit reads) s.valuation t.valuation = covered_same A reads s.valuation t.valuation same cs.0.0 in (
+          inl (λ b h. put_settles ps (read_expr names x) s.valuation t.valuation (faithful names x) (pieces_faithful names target) known b
+              (elim (or-split (A b) (has_bit (event_surely (event true)) b) h) [ inl k ↦ inl (same b k) | inr k ↦ inr k ])),
+          refl,
+          refl,
+        ));
   }
 
   pub later_runs : (g : State → State) → Runs g (one (event false))
@@ -179,12 +182,12 @@ module _ (wild : Bool) (x : Expr) (es : List (ArmOf Effect)) (bs : List (ArmOf F
       let selector : Equal v w (meaning names x) = (faithful names x).same v w (same-left (read_expr names x).reads (label_reads names labels) v w known) in
       let equal : Each (EqualLabel names v w) labels = read_labels names v w labels (same-right (read_expr names x).reads (label_reads names labels) v w known) in
       let number : (meaning names x).value (common names x labels).width (common names x labels).signed v ≡ (meaning names x).value (common names x labels).width (common names x labels).signed w =
-          selector (common names x labels).width (common names x labels).signed in
+      selector (common names x labels).width (common names x labels).signed in
       let out : Outcome A arms.paths s t (arm_taken (fitting labels v) es unchanged names s) (arm_taken (fitting labels w) es unchanged names t) =
-          taken names A s t same (fitting labels v) (fitting labels w) es bs h
-          (arms_match (fitting labels v) (fitting labels w) bs (EqualLabel names v w) (λ ls k. any_match_equal names v w wild (common names x labels) _ _ ls number k) equal)
-          unchanged start.paths
-          (λ d n. start_ends A s t same default full d (elim (decide full) [ inl k ↦ absurd (not_both _ (full_fits names wild x labels v k) n) | inr k ↦ k ])) cs in
+      taken names A s t same (fitting labels v) (fitting labels w) es bs h
+      (arms_match (fitting labels v) (fitting labels w) bs (EqualLabel names v w) (λ ls k. any_match_equal names v w wild (common names x labels) _ _ ls number k) equal)
+      unchanged start.paths
+      (λ d n. start_ends A s t same default full d (elim (decide full) [ inl k ↦ absurd (not_both _ (full_fits names wild x labels v k) n) | inr k ↦ k ])) cs in
       subst (λ (ls : List Expr). Outcome A arms.paths s t (arm_taken (fitting ls v) es unchanged names s) (arm_taken (fitting ls w) es unchanged names t)) (sym (labels_equal es bs h)) out
 
   pub case_runs : Runs (case_effect wild x es names) (case_flow wild x bs names)

@@ -18,7 +18,7 @@ use Rattle.lv_ast.specs.declared.item.Params.{Params}
 use Rattle.lv_ast.specs.declared.item.Ports.TheVariants as p
 use Rattle.lv_ast.specs.Names.{Names, width_of}
 use Rattle.lv_ast.specs.Meaning.{constant_value}
-use Rattle.lv_source.specs.Parts.{Design, parts, scopes, signals, registers, inputs, after}
+use Rattle.lv_source.specs.Parts.{Design, parts, scopes_of, signals_of, registers_of, inputs_of, after}
 use Rattle.lv_ast.proofs.Build.{id, name, bin, un, to, bit, chosen, plain, bits, input, output, output_reg, module_of, clk, at_clock, wire, wire_with, valued, turns_of, linked, ordered, width}
 use Rattle.lv_source.proofs.Build.{design_t, refused}
 
@@ -39,7 +39,6 @@ seven_by_two = refl
 minus_seven_by_two : constant_value no_names (divided_by (un o.Neg (plain 7)) (plain 2)) ≡ 4294967293
 unfolding read_expr read_select pieces executes turns turns_from flow labels as_target walk walk_select target_sites standing digits
 minus_seven_by_two = refl
-
 
 -- ---- a parameter that sets a width, and an instance that sets the parameter
 
@@ -70,19 +69,19 @@ two_instances = design_t (
     } ∷ []) ∷ []) ∷
     module_s ∷ [])
 
-paths : map (λ s. s.path) (scopes two_instances) ≡ [] ∷ codes "\\u+ " ∷ codes "v" ∷ []
+paths : map (λ s. s.path) (scopes_of two_instances) ≡ [] ∷ codes "\\u+ " ∷ codes "v" ∷ []
 unfolding read_expr read_select pieces executes turns turns_from flow labels as_target walk walk_select target_sites standing digits
 paths = refl
 
-registers_are : registers two_instances ≡ codes "\\u+ .q" ∷ codes "v.q" ∷ []
+registers_are : registers_of two_instances ≡ codes "\\u+ .q" ∷ codes "v.q" ∷ []
 unfolding read_expr read_select pieces executes turns turns_from flow labels as_target walk walk_select target_sites standing digits
 registers_are = refl
 
-inputs_are : inputs two_instances ≡ codes "x" ∷ []
+inputs_are : inputs_of two_instances ≡ codes "x" ∷ []
 unfolding read_expr read_select pieces executes turns turns_from flow labels as_target walk walk_select target_sites standing digits
 inputs_are = refl
 
-widths_are : map (λ s. width_of s) (signals two_instances) ≡ 8 ∷ 4 ∷ 8 ∷ 8 ∷ 8 ∷ 4 ∷ 4 ∷ []
+widths_are : map (λ s. width_of s) (signals_of two_instances) ≡ 8 ∷ 4 ∷ 8 ∷ 8 ∷ 8 ∷ 4 ∷ 4 ∷ []
 unfolding read_expr read_select pieces executes turns turns_from flow labels as_target walk walk_select target_sites standing digits
 widths_are = refl
 
@@ -107,7 +106,7 @@ lanes = design_t (module_of (codes "t") (clk ∷ input (codes "x") 60 (Some (bit
     turns_of (id (codes "g") 80) (plain 0) (bin o.Lt (name (codes "g")) (plain 2)) (id (codes "g") 85) (bin o.Add (name (codes "g")) (plain 1)) (id (codes "lane") 90)
     (wire_with (codes "w") 95 None (chosen (codes "x") (bit (name (codes "g")) ∷ [])) ∷ []) ∷ []) ∷ [])
 
-lane_paths : map (λ s. s.path) (signals lanes) ≡ codes "x" ∷ codes "lane[0].w" ∷ codes "lane[1].w" ∷ []
+lane_paths : map (λ s. s.path) (signals_of lanes) ≡ codes "x" ∷ codes "lane[0].w" ∷ codes "lane[1].w" ∷ []
 unfolding read_expr read_select pieces executes turns turns_from flow labels as_target walk walk_select target_sites standing digits
 lane_paths = refl
 

@@ -32,6 +32,7 @@ choices_of names (s ∷ ss) = (faithful_choice names s, choices_of names ss)
 
 mutual
   unfolding pieces
+
   pub pieces_faithful : (names : Names) (t : Target) → Each FaithfulPiece (pieces names t)
   pieces_faithful names (t.Name path ss) = (choices_of names ss, tt)
   pieces_faithful names (t.Cat' n ts) = all_faithful names ts
@@ -113,7 +114,7 @@ pub places_equal : (v w : Valuation) (ps : List Piece) → Each FaithfulPiece ps
 places_equal v w [] h s = refl
 places_equal v w (p ∷ ps) h s =
     let first : piece_place v p ≡ piece_place w p =
-        place_equal v w (known p.declared) p.choices (choices_equal v w p.choices h.0 (same-left (index_reads p.choices) (target_reads ps) v w s)) in
+    place_equal v w (known p.declared) p.choices (choices_equal v w p.choices h.0 (same-left (index_reads p.choices) (target_reads ps) v w s)) in
     let rest : places v ps ≡ places w ps = places_equal v w ps h.1 (same-right (index_reads p.choices) (target_reads ps) v w s) in
     ap (λ (q : Place). q ∷ places v ps) first ∙ ap (λ (qs : List Place). piece_place w p ∷ qs) rest
 
@@ -150,7 +151,7 @@ put_at ps value v w f h s =
     let qs : places w ps ≡ places v ps = sym (places_equal v w ps h (same-right value.reads (target_reads ps) v w s)) in
     let n : ℕ = bits_in (places v ps) in
     let x : assigned w n value.meaning ≡ assigned v n value.meaning =
-        ap (λ y. y % 2 ^ n) (sym (f.same v w (same-left value.reads (target_reads ps) v w s) (max n value.meaning.width) value.meaning.signed)) in
+    ap (λ y. y % 2 ^ n) (sym (f.same v w (same-left value.reads (target_reads ps) v w s) (max n value.meaning.width) value.meaning.signed)) in
     ap (λ (ps : List Place). write_all w ps (assigned w (bits_in ps) value.meaning)) qs ∙ ap (λ y. write_all w (places v ps) y) x
 
 pub put_settles : (ps : List Piece) (value : Reading) (v w : Valuation) → Faithful value → Each FaithfulPiece ps → Same (has_bit (value.reads ++ target_reads ps)) v w →

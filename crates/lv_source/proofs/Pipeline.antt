@@ -14,7 +14,7 @@ use Rattle.lv_ast.specs.declared.item.Item.{Item}
 use Rattle.lv_ast.specs.declared.item.Item.TheVariants as i
 use Rattle.lv_ast.specs.declared.item.Module.{Module}
 use Rattle.lv_ast.specs.declared.item.Range.{Range}
-use Rattle.lv_source.specs.Parts.{Design, registers, inputs}
+use Rattle.lv_source.specs.Parts.{Design, registers_of, inputs_of}
 use Rattle.lv_source.proofs.Build.{refused}
 use Rattle.lv_ast.proofs.Build.{id, name, bin, to, sized, bits, block, input, output, output_reg, assign, module_of, at_clock, reg, wire, wire_with, linked, clk}
 
@@ -50,11 +50,11 @@ pipeline = record {
   clock = codes "clk";
 }
 
-registers_are : registers pipeline ≡ codes "key" ∷ codes "u1.ov" ∷ codes "u1.ox" ∷ codes "u2.ov" ∷ codes "u2.ox" ∷ []
+registers_are : registers_of pipeline ≡ codes "key" ∷ codes "u1.ov" ∷ codes "u1.ox" ∷ codes "u2.ov" ∷ codes "u2.ox" ∷ []
 unfolding read_expr read_select pieces executes turns turns_from flow labels as_target walk walk_select target_sites standing digits
 registers_are = refl
 
-inputs_are : inputs pipeline ≡ codes "go" ∷ codes "d" ∷ []
+inputs_are : inputs_of pipeline ≡ codes "go" ∷ codes "d" ∷ []
 unfolding read_expr read_select pieces executes turns turns_from flow labels as_target walk walk_select target_sites standing digits
 inputs_are = refl
 

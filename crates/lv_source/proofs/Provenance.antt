@@ -17,7 +17,7 @@ use Rattle.lv_ast.specs.Names.{Name, Names, alone}
 use Rattle.lv_ast.specs.Meaning.{Reading, read_expr}
 use Rattle.lv_ast.specs.Effect.{Piece, pieces}
 use Rattle.lv_source.specs.Scopes.{Scope, Link, module_named, instance_scopes}
-use Rattle.lv_source.specs.Parts.{Design, Part, Body, Assign, Comb, Clocked, part, net_part, output_part, link_body, link_part, instance_parts, always_body, item_parts, scope_parts, parts, scopes, whole_piece, whole_value, as_target, links_to, option_list}
+use Rattle.lv_source.specs.Parts.{Design, Part, Body, Assign, Comb, Clocked, part, net_part, output_part, link_body, link_part, instance_parts, always_body, item_parts, scope_parts, parts, scopes_of, whole_piece, whole_value, as_target, links_to, option_list}
 use Rattle.lv_source.proofs.Each.{Each, each-join}
 use Rattle.lv_source.proofs.Faithful.{Faithful}
 use Rattle.lv_source.proofs.Readings.{faithful, node}
@@ -89,4 +89,4 @@ item_faithful source s (i.Instance kind settings insts) = each-flat FaithfulPart
 item_faithful source s _ = tt
 
 pub parts_faithful : (d : Design) → Each FaithfulPart (parts d)
-parts_faithful d = each-flat FaithfulPart (scope_parts d.source) (λ s. each-flat FaithfulPart (item_parts d.source s) (item_faithful d.source s) s.items) (scopes d)
+parts_faithful d = each-flat FaithfulPart (scope_parts d.source) (λ s. each-flat FaithfulPart (item_parts d.source s) (item_faithful d.source s) s.items) (scopes_of d)

@@ -18,12 +18,11 @@ use Rattle.lv_ast.specs.declared.item.Item.{Item}
 use Rattle.lv_ast.specs.declared.item.Item.TheVariants as i
 use Rattle.lv_ast.specs.declared.item.Module.{Module}
 use Rattle.lv_ast.specs.declared.item.Conn.{Conn}
-use Rattle.lv_source.specs.Parts.{drives, Design, parts, registers}
+use Rattle.lv_source.specs.Parts.{drives, Design, parts, registers_of}
 use Rattle.lv_source.specs.Legal.{Kind, Blocking, Latch, UnknownModule, UnknownName, Duplicate, NotConstant, ZeroDivisor, Recursion, Port, WrongKind, ClockUse, Nonblocking, TwoDrivers, Undriven, ReadFirst, Range}
 use Rattle.lv_source.specs.PartRules.{is_cycle}
 use Rattle.lv_ast.proofs.Build.{id, name, bin, un, cat, to, to_bits, bit, slice, chosen, plain, sized, bits, block, input, output, assign, module_of, clk, always_star, at_clock, reg, wire, loop_of, linked, case_of}
 use Rattle.lv_source.proofs.Build.{design_t, refused, told_at, is_empty}
-
 use Rattle.lv_source.proofs.Hierarchy.{divided_by, parameter_n, module_s}
 
 -- ---- small designs
@@ -196,7 +195,7 @@ unfolding read_expr read_select pieces executes turns turns_from flow labels as_
 loops_at = refl
 
 -- a loop that has no turn writes nothing
-no_turn : registers (indexed (count_to 40 0 (codes "k") sets)) ≡ codes "r" ∷ []
+no_turn : registers_of (indexed (count_to 40 0 (codes "k") sets)) ≡ codes "r" ∷ []
 unfolding read_expr read_select pieces executes turns turns_from flow labels as_target walk walk_select target_sites standing digits
 no_turn = refl
 

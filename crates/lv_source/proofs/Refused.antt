@@ -83,6 +83,7 @@ each_kind Latch = inr (inr (inr (inr (inr (inr (inr (inr (inr (inr (inr (inr (in
 each_kind ReadFirst = inr (inr (inr (inr (inr (inr (inr (inr (inr (inr (inr (inr (inr (inr (inr (inl refl)))))))))))))))
 
 pub refused_where : (d : Design) (kind : Kind) (at : At) → HoldsAt d kind at ↔ Contains (refusals d) (record { kind = kind; at = at })
-refused_where d kind at =
-    ((λ h. in_contains (record { kind = kind; at = at }) (refusals d) (to_kinds d kind at kinds (each_kind kind) (contains_in at (places_of d kind) h.found))),
-    (λ h. record { found = in_contains at (places_of d kind) (from_kinds d kind at kinds (contains_in (record { kind = kind; at = at }) (refusals d) h)) }))
+refused_where d kind at = (
+  (λ h. in_contains (record { kind = kind; at = at }) (refusals d) (to_kinds d kind at kinds (each_kind kind) (contains_in at (places_of d kind) h.found))),
+  (λ h. record { found = in_contains at (places_of d kind) (from_kinds d kind at kinds (contains_in (record { kind = kind; at = at }) (refusals d) h)) }),
+)

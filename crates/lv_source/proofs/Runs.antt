@@ -112,9 +112,10 @@ first-covered A p (q ∷ qs) h k = covered-left A p q k.0
 
 firsts : (A : Bit → Bool) (ps qs : List (List Event)) → Some' Any qs → Each (Covered A) (product ps qs) → Each (Covered A) ps
 firsts A [] qs h k = tt
-firsts A (p ∷ ps) qs h k =
-    (first-covered A p qs h (each-unmap (λ q. p ++ q) (Covered A) qs (each-left (Covered A) (map (λ q. p ++ q) qs) (product ps qs) k)),
-    firsts A ps qs h (each-right (Covered A) (map (λ q. p ++ q) qs) (product ps qs) k))
+firsts A (p ∷ ps) qs h k = (
+  first-covered A p qs h (each-unmap (λ q. p ++ q) (Covered A) qs (each-left (Covered A) (map (λ q. p ++ q) qs) (product ps qs) k)),
+  firsts A ps qs h (each-right (Covered A) (map (λ q. p ++ q) qs) (product ps qs) k),
+)
 
 seconds : (A : Bit → Bool) (P Q : List Event → Type 0) (R : Type 0) (ps qs : List (List Event)) → Each (Covered A) (product ps qs) → Some' P ps →
     ((p : List Event) → P p → Each (λ q. Covered A (p ++ q)) qs → Some' (λ q. Q (p ++ q)) qs × R) → Some' Q (product ps qs) × R
@@ -134,10 +135,12 @@ module _ (g h : State → State) (a b : Flow) (f : Runs g a) (k : Runs h b) wher
       let Q : List Event → Type 0 = λ p. Same (After A p) (h (g s)).valuation (h (g t)).valuation in
       let R : Type 0 = ((h (g s)).pending ≡ (g s).pending) × ((h (g t)).pending ≡ (g t).pending) in
       let both : Some' Q (product a.paths b.paths) × R = seconds A P Q R a.paths b.paths c first.0 (λ p same cs.
-          (let then_ : Outcome (After A p) b.paths (g s) (g t) (h (g s)) (h (g t)) =
-              k.run (After A p) (g s) (g t) same (each-imp (λ q. Covered A (p ++ q)) (Covered (After A p)) b.paths (covered-right A p) cs) in
-          (some-imp (λ q. Same (After (After A p) q) (h (g s)).valuation (h (g t)).valuation) (λ q. Q (p ++ q)) b.paths
-          (λ q. after-join A p q (h (g s)).valuation (h (g t)).valuation) then_.0, (then_.1, then_.2)))) in
+      (let then_ : Outcome (After A p) b.paths (g s) (g t) (h (g s)) (h (g t)) =
+      k.run (After A p) (g s) (g t) same (each-imp (λ q. Covered A (p ++ q)) (Covered (After A p)) b.paths (covered-right A p) cs) in (
+        some-imp (λ q. Same (After (After A p) q) (h (g s)).valuation (h (g t)).valuation) (λ q. Q (p ++ q)) b.paths
+            (λ q. after-join A p q (h (g s)).valuation (h (g t)).valuation) then_.0,
+        (then_.1, then_.2),
+      ))) in
       (both.0, both.1.0 ∙ first.1, both.1.1 ∙ first.2)
 
   pub then-runs : Runs (λ s. h (g s)) (then_flow a b)
@@ -170,8 +173,8 @@ module _ (bs : List Bit) (f : Flow) where
         (let cs : Each (λ q. Covered A (e ∷ q)) f.paths = each-unmap (λ q. e ∷ q) (Covered A) f.paths (each-left (Covered A) (map (λ q. e ∷ q) f.paths) [] c) in
         let reads : ReadsIn A bs = look-first A f.paths some cs in
         let out : Outcome (grow A []) f.paths s t (g s) (g t) =
-            run (grow A []) s t (λ b h. same b (ungrown A b h)) (λ b h. or-left (A b) false (reads b h))
-            (each-imp (λ q. Covered A (e ∷ q)) (Covered (grow A [])) f.paths (λ q h. h.2) cs) in
+        run (grow A []) s t (λ b h. same b (ungrown A b h)) (λ b h. or-left (A b) false (reads b h))
+        (each-imp (λ q. Covered A (e ∷ q)) (Covered (grow A [])) f.paths (λ q h. h.2) cs) in
         (some-left _ (map (λ q. e ∷ q) f.paths) [] (some-map (λ q. e ∷ q) (λ p. Same (After A p) (g s).valuation (g t).valuation) f.paths out.0), out.1, out.2));
   }
 

@@ -60,27 +60,28 @@ covered_by : (driven all : List Bit) (A : Bit → Bool) (done : List Bit) (p : L
 covered_by driven all A done [] f g h r o = tt
 covered_by driven all A done (e ∷ es) f g h r o =
     let first : list_any (λ b. has_bit driven b && not (has_bit done b)) e.reads ≡ false =
-        or-none_left (list_any (λ b. has_bit driven b && not (has_bit done b)) e.reads) (reads_first driven (event_surely e ++ done) es) h in
+    or-none_left (list_any (λ b. has_bit driven b && not (has_bit done b)) e.reads) (reads_first driven (event_surely e ++ done) es) h in
     let rest : reads_first driven (event_surely e ++ done) es ≡ false =
-        or-none_right (list_any (λ b. has_bit driven b && not (has_bit done b)) e.reads) (reads_first driven (event_surely e ++ done) es) h in
-    ((λ b x. elim (decide (has_bit driven b)) [
-      | inl k ↦ elim (decide (has_bit done b)) [
-        | inl j ↦ f b j
-        | inr j ↦ absurd (
-            let yes : (has_bit driven b && not (has_bit done b)) ≡ true = and-both (has_bit driven b) (not (has_bit done b)) k (ap not j) in
-            let no : (has_bit driven b && not (has_bit done b)) ≡ false = none_has (λ b. has_bit driven b && not (has_bit done b)) e.reads b first x in cc)
-      ]
-      | inr k ↦ elim (decide (has_bit all b)) [
-        | inl j ↦ g b j k
-        | inr j ↦ absurd (let no : has_bit e.reads b ≡ false = or-none_left (has_bit e.reads b) (list_any (λ (e : Event). has_bit e.reads b) es) (r b j) in cc)
-      ]
-    ]),
-    not-false e.at_once (or-none_left (not e.at_once) (list_any (λ (e : Event). not e.at_once) es) o),
-    covered_by driven all (λ b. A b || has_bit (event_surely e) b) (event_surely e ++ done) es
-    (λ b x. elim (any-split (same_bit b) (event_surely e) done x) [ inl k ↦ or-right (A b) (has_bit (event_surely e) b) k | inr k ↦ or-left (A b) (has_bit (event_surely e) b) (f b k) ])
-    (λ b x y. or-left (A b) (has_bit (event_surely e) b) (g b x y)) rest
-    (λ b x. or-none_right (has_bit e.reads b) (list_any (λ (e : Event). has_bit e.reads b) es) (r b x))
-    (or-none_right (not e.at_once) (list_any (λ (e : Event). not e.at_once) es) o))
+    or-none_right (list_any (λ b. has_bit driven b && not (has_bit done b)) e.reads) (reads_first driven (event_surely e ++ done) es) h in (
+      (λ b x. elim (decide (has_bit driven b)) [
+        | inl k ↦ elim (decide (has_bit done b)) [
+          | inl j ↦ f b j
+          | inr j ↦ absurd (
+              let yes : (has_bit driven b && not (has_bit done b)) ≡ true = and-both (has_bit driven b) (not (has_bit done b)) k (ap not j) in
+              let no : (has_bit driven b && not (has_bit done b)) ≡ false = none_has (λ b. has_bit driven b && not (has_bit done b)) e.reads b first x in cc)
+        ]
+        | inr k ↦ elim (decide (has_bit all b)) [
+          | inl j ↦ g b j k
+          | inr j ↦ absurd (let no : has_bit e.reads b ≡ false = or-none_left (has_bit e.reads b) (list_any (λ (e : Event). has_bit e.reads b) es) (r b j) in cc)
+        ]
+      ]),
+      not-false e.at_once (or-none_left (not e.at_once) (list_any (λ (e : Event). not e.at_once) es) o),
+      covered_by driven all (λ b. A b || has_bit (event_surely e) b) (event_surely e ++ done) es
+          (λ b x. elim (any-split (same_bit b) (event_surely e) done x) [ inl k ↦ or-right (A b) (has_bit (event_surely e) b) k | inr k ↦ or-left (A b) (has_bit (event_surely e) b) (f b k) ])
+          (λ b x y. or-left (A b) (has_bit (event_surely e) b) (g b x y)) rest
+          (λ b x. or-none_right (has_bit e.reads b) (list_any (λ (e : Event). has_bit e.reads b) es) (r b x))
+          (or-none_right (not e.at_once) (list_any (λ (e : Event). not e.at_once) es) o),
+    )
 
 -- ---- blocks
 
@@ -106,8 +107,8 @@ module _ (names : Names) (s : Stmt) where
   covered : is_read_first f ≡ false → list_any once f.events ≡ false → Each (Covered outer) f.paths
   covered h o =
       let reads : Each (ReadsOf all) f.paths =
-          swap_all (λ b. has_bit all b ≡ false) (λ b p. list_any (λ (e : Event). has_bit e.reads b) p ≡ false) f.paths
-          (λ b k. (follows names s).inside (λ (e : Event). has_bit e.reads b) (no_reads f.events b k)) in
+      swap_all (λ b. has_bit all b ≡ false) (λ b p. list_any (λ (e : Event). has_bit e.reads b) p ≡ false) f.paths
+      (λ b k. (follows names s).inside (λ (e : Event). has_bit e.reads b) (no_reads f.events b k)) in
       let firsts : Each (λ p. reads_first driven [] p ≡ false) f.paths = none_each (reads_first driven []) f.paths h in
       let onces : Each (NoneOf once) f.paths = (follows names s).inside once o in
       each_to (λ p. (reads_first driven [] p ≡ false) × (ReadsOf all p × NoneOf once p)) (Covered outer) f.paths
@@ -122,7 +123,7 @@ module _ (names : Names) (s : Stmt) where
       let out : Outcome outer f.paths s0 t0 (executes names s s0) (executes names s t0) = (follows names s).run outer s0 t0 same (covered r o) in
       let latched : Each (λ p. list_any (λ b. not (has_bit (surely p) b)) driven ≡ false) f.paths = none_each (λ p. list_any (λ b. not (has_bit (surely p) b)) driven) f.paths l in
       let middle : bit_at (executes names s s0).valuation b ≡ bit_at (executes names s t0).valuation b =
-          some_with (λ p. Same (After outer p) (executes names s s0).valuation (executes names s t0).valuation) (λ p. list_any (λ b. not (has_bit (surely p) b)) driven ≡ false)
-          (bit_at (executes names s s0).valuation b ≡ bit_at (executes names s t0).valuation b) f.paths out.0 latched
-          (λ p known n. known b (after-surely outer p b (not-false (has_bit (surely p) b) (none_has (λ b. not (has_bit (surely p) b)) driven b n h)))) in
+      some_with (λ p. Same (After outer p) (executes names s s0).valuation (executes names s t0).valuation) (λ p. list_any (λ b. not (has_bit (surely p) b)) driven ≡ false)
+      (bit_at (executes names s s0).valuation b ≡ bit_at (executes names s t0).valuation b) f.paths out.0 latched
+      (λ p known n. known b (after-surely outer p b (not-false (has_bit (surely p) b) (none_has (λ b. not (has_bit (surely p) b)) driven b n h)))) in
       applied_none (executes names s s0).valuation (executes names s s0).pending out.1 b ∙ (middle ∙ sym (applied_none (executes names s t0).valuation (executes names s t0).pending out.2 b))

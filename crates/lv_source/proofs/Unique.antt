@@ -11,7 +11,7 @@ use Rattle.lv_ast.specs.Places.{Bit, bit_at, has_bit, same_bit, whole, cells}
 use Rattle.lv_ast.specs.Meaning.{all_constant}
 use Rattle.lv_ast.specs.Effect.{Piece}
 use Rattle.lv_source.specs.Flow.{writes_of}
-use Rattle.lv_source.specs.Parts.{Design, Part, At, Body, Assign, Comb, Clocked, parts, signals, inputs, registers, is_clocked, is_comb, drives, reads, driven_by, read_by, after, is_register, is_wired, width_from, width_at}
+use Rattle.lv_source.specs.Parts.{Design, Part, At, Body, Assign, Comb, Clocked, parts, signals_of, inputs_of, registers_of, is_clocked, is_comb, drives, reads, driven_by, read_by, after, is_register, is_wired, width_from, width_at}
 use Rattle.lv_source.specs.Settled.{IsSettled, SameOn, SameInputs}
 use Rattle.lv_source.specs.PartRules as r
 use Rattle.lv_source.specs.ScopeRules.{same_sign}
@@ -83,7 +83,7 @@ bit_with q (c ∷ cs) b h k = elim (or-split (same_bit b c) (has_bit cs b) h) [
   | inr e ↦ or-right (q c) (list_any q cs) (bit_with q cs b e k)
 ]
 
-module _ (d : Design) (legal : IsLegal d) (v w : Valuation) (sv : IsSettled d v) (sw : IsSettled d w) (sr : SameOn (registers d) v w) (si : SameInputs d v w) where
+module _ (d : Design) (legal : IsLegal d) (v w : Valuation) (sv : IsSettled d v) (sw : IsSettled d w) (sr : SameOn (registers_of d) v w) (si : SameInputs d v w) where
   abbrev ps : List Part
   ps = parts d
 
@@ -92,8 +92,8 @@ module _ (d : Design) (legal : IsLegal d) (v w : Valuation) (sv : IsSettled d v)
       let left : (name : Name) → after p v name ≡ v name = all_at (λ p. (name : Name) → after p v name ≡ v name) (λ p. not (is_clocked p)) ps sv.holds k p e (ap not c) in
       let right : (name : Name) → after p w name ≡ w name = all_at (λ p. (name : Name) → after p w name ≡ w name) (λ p. not (is_clocked p)) ps sw.holds k p e (ap not c) in
       let middle : bit_at (after p v) b ≡ bit_at (after p w) b =
-          body_settles p.at p.body (each_at FaithfulPart ps (parts_faithful d) k p e) c (no_latch d legal k p e) (no_read_first d legal k p e) (no_nonblocking d legal k p e)
-          (no_unfixed d legal k p e) v w same b h in
+      body_settles p.at p.body (each_at FaithfulPart ps (parts_faithful d) k p e) c (no_latch d legal k p e) (no_read_first d legal k p e) (no_nonblocking d legal k p e)
+      (no_unfixed d legal k p e) v w same b h in
       ap (λ n. n / 2 ^ b.place % 2) (sym (left b.name)) ∙ (middle ∙ ap (λ n. n / 2 ^ b.place % 2) (right b.name))
 
   -- ---- which bits are settled by what
@@ -111,7 +111,7 @@ module _ (d : Design) (legal : IsLegal d) (v w : Valuation) (sv : IsSettled d v)
   past b h = bit_at_above (v b.name) (width_at d b.name) b.place (sv.fits b.name) h ∙ sym (bit_at_above (w b.name) (width_at d b.name) b.place (sw.fits b.name) h)
 
   -- a signal that is no input and no register, and a bit of it that a clocked block drives
-  not_clocked : (i : ℕ) (x : Declared) → slice_get (signals d) i ≡ Some x → is_wired ps x ≡ true → (b : Bit) → has_bit (whole x) b ≡ true →
+  not_clocked : (i : ℕ) (x : Declared) → slice_get (signals_of d) i ≡ Some x → is_wired ps x ≡ true → (b : Bit) → has_bit (whole x) b ≡ true →
       (k : ℕ) (p : Part) → slice_get ps k ≡ Some p → has_bit (drives p) b ≡ true → is_clocked p ≡ true → ⊥
   not_clocked i x ex wired b inside k p ep driven clocked =
       let no_input : is_input_sort x.sort ≡ false = not-true (is_input_sort x.sort) (and-left (not (is_input_sort x.sort)) (not (is_register ps x)) wired) in
@@ -121,34 +121,34 @@ module _ (d : Design) (legal : IsLegal d) (v w : Valuation) (sv : IsSettled d v)
       elim (decide (is_variable_sort x.sort)) [
         | inl variable ↦ (
             let combs : list_any (driven_by (filter is_comb ps)) (whole x) ≡ true =
-                elim (decide (list_any (driven_by (filter is_comb ps)) (whole x))) [
-                  | inl y ↦ y
-                  | inr n ↦ clash (is_register ps x) (and-both (is_variable_sort x.sort) (not (list_any (driven_by (filter is_comb ps)) (whole x))) variable (ap not n)) no_register
-                ] in
+            elim (decide (list_any (driven_by (filter is_comb ps)) (whole x))) [
+              | inl y ↦ y
+              | inr n ↦ clash (is_register ps x) (and-both (is_variable_sort x.sort) (not (list_any (driven_by (filter is_comb ps)) (whole x))) variable (ap not n)) no_register
+            ] in
             let c : (b : Bit) × (has_bit (whole x) b ≡ true) × (driven_by (filter is_comb ps) b ≡ true) = some_bit_with (driven_by (filter is_comb ps)) (whole x) combs in
             let q : (j : ℕ) × (q : Part) × (slice_get ps j ≡ Some q) × ((is_comb q && has_bit (drives q) c.0) ≡ true) =
-                any_at (λ q. is_comb q && has_bit (drives q) c.0) ps (filtered_any is_comb (λ q. has_bit (drives q) c.0) ps c.2) in
+            any_at (λ q. is_comb q && has_bit (drives q) c.0) ps (filtered_any is_comb (λ q. has_bit (drives q) c.0) ps c.2) in
             let comb : is_comb q.1 ≡ true = and-left (is_comb q.1) (has_bit (drives q.1) c.0) q.3 in
             let touches : r.touches (drives q.1) x ≡ true = bit_with (has_bit (whole x)) (drives q.1) c.0 (and-right (is_comb q.1) (has_bit (drives q.1) c.0) q.3) c.1 in
             let unlike : not (same_sign (is_clocked p) (is_clocked q.1)) ≡ true =
-                ap (λ z. not (same_sign z (is_clocked q.1))) clocked ∙ ap (λ z. not (same_sign true z)) (comb_unclocked q.1.at q.1.body comb) in
+            ap (λ z. not (same_sign z (is_clocked q.1))) clocked ∙ ap (λ z. not (same_sign true z)) (comb_unclocked q.1.at q.1.body comb) in
             let other : list_any (λ q. r.touches (drives q) x && not (same_sign (is_clocked p) (is_clocked q))) ps ≡ true =
-                at_any (λ q. r.touches (drives q) x && not (same_sign (is_clocked p) (is_clocked q))) ps q.0 q.1 q.2 (and-both _ _ touches unlike) in
+            at_any (λ q. r.touches (drives q) x && not (same_sign (is_clocked p) (is_clocked q))) ps q.0 q.1 q.2 (and-both _ _ touches unlike) in
             let mixed : r.is_mixed ps p x ≡ true = and-both _ _ (and-both (is_variable_sort x.sort) (r.touches (drives p) x) variable touched) other in
-            clash (list_any (r.is_mixed ps p) (signals d)) (at_any (r.is_mixed ps p) (signals d) i x ex mixed) (no_mixed d legal k p ep))
+            clash (list_any (r.is_mixed ps p) (signals_of d)) (at_any (r.is_mixed ps p) (signals_of d) i x ex mixed) (no_mixed d legal k p ep))
         | inr net ↦ (
             let block : r.is_block p ≡ true = clocked_block p.at p.body clocked in
             let unlike : not (same_sign (r.is_block p) (is_variable_sort x.sort)) ≡ true =
-                ap (λ z. not (same_sign z (is_variable_sort x.sort))) block ∙ ap (λ z. not (same_sign true z)) net in
-            let wrong : list_any (λ x. r.touches (drives p) x && not (same_sign (r.is_block p) (is_variable_sort x.sort)) && not (is_input_sort x.sort)) (signals d) ≡ true =
-                at_any (λ x. r.touches (drives p) x && not (same_sign (r.is_block p) (is_variable_sort x.sort)) && not (is_input_sort x.sort)) (signals d) i x ex
-                (and-both _ _ (and-both _ _ touched unlike) (ap not no_input)) in
+            ap (λ z. not (same_sign z (is_variable_sort x.sort))) block ∙ ap (λ z. not (same_sign true z)) net in
+            let wrong : list_any (λ x. r.touches (drives p) x && not (same_sign (r.is_block p) (is_variable_sort x.sort)) && not (is_input_sort x.sort)) (signals_of d) ≡ true =
+            at_any (λ x. r.touches (drives p) x && not (same_sign (r.is_block p) (is_variable_sort x.sort)) && not (is_input_sort x.sort)) (signals_of d) i x ex
+            (and-both _ _ (and-both _ _ touched unlike) (ap not no_input)) in
             clash _ wrong (or-none_right _ _ (no_wrong_kind d legal k p ep)))
       ]
 
   -- each bit, where those that parts without a clock drive are settled
   bit_settles : (b : Bit) → ((k : ℕ) (p : Part) → slice_get ps k ≡ Some p → is_clocked p ≡ false → has_bit (drives p) b ≡ true → bit_at v b ≡ bit_at w b) → bit_at v b ≡ bit_at w b
-  bit_settles b driven = elim (signal_of (signals d) b.name) [
+  bit_settles b driven = elim (signal_of (signals_of d) b.name) [
     | inl none ↦ past b (omega arith)
     | inr s ↦ (
         let x : Declared = s.1 in
@@ -157,9 +157,9 @@ module _ (d : Design) (legal : IsLegal d) (v w : Valuation) (sv : IsSettled d v)
           | inl below ↦ (
               let inside : has_bit (whole x) b ≡ true = cells_have (width_of x) b.place (cells x) b.name s.3 below in
               elim (decide (is_input_sort x.sort)) [
-                | inl input ↦ ap (λ n. n / 2 ^ b.place % 2) (all_names (λ n. v n ≡ w n) (inputs d) si b.name (cells_any (λ x. is_input_sort x.sort) (signals d) s.0 x b.name s.2 input s.3))
+                | inl input ↦ ap (λ n. n / 2 ^ b.place % 2) (all_names (λ n. v n ≡ w n) (inputs_of d) si b.name (cells_any (λ x. is_input_sort x.sort) (signals_of d) s.0 x b.name s.2 input s.3))
                 | inr no_input ↦ elim (decide (is_register ps x)) [
-                  | inl register ↦ ap (λ n. n / 2 ^ b.place % 2) (all_names (λ n. v n ≡ w n) (registers d) sr b.name (cells_any (is_register ps) (signals d) s.0 x b.name s.2 register s.3))
+                  | inl register ↦ ap (λ n. n / 2 ^ b.place % 2) (all_names (λ n. v n ≡ w n) (registers_of d) sr b.name (cells_any (is_register ps) (signals_of d) s.0 x b.name s.2 register s.3))
                   | inr no_register ↦ (
                       let wired : is_wired ps x ≡ true = and-both (not (is_input_sort x.sort)) (not (is_register ps x)) (ap not no_input) (ap not no_register) in
                       elim (decide (driven_by ps b)) [
@@ -173,14 +173,14 @@ module _ (d : Design) (legal : IsLegal d) (v w : Valuation) (sv : IsSettled d v)
                           | inl read ↦ (
                               let p : (k : ℕ) × (p : Part) × (slice_get ps k ≡ Some p) × (has_bit (reads p) b ≡ true) = any_at (λ p. has_bit (reads p) b) ps read in
                               let bad : list_any (λ b. has_bit (whole x) b && not (driven_by ps b)) (reads p.1) ≡ true =
-                                  bit_with (λ b. has_bit (whole x) b && not (driven_by ps b)) (reads p.1) b p.3 (and-both (has_bit (whole x) b) (not (driven_by ps b)) inside (ap not by_none)) in
-                              clash (r.is_undriven d ps p.1) (at_any (λ x. is_wired ps x && list_any (λ b. has_bit (whole x) b && not (driven_by ps b)) (reads p.1)) (signals d) s.0 x s.2 (and-both _ _ wired bad))
+                              bit_with (λ b. has_bit (whole x) b && not (driven_by ps b)) (reads p.1) b p.3 (and-both (has_bit (whole x) b) (not (driven_by ps b)) inside (ap not by_none)) in
+                              clash (r.is_undriven d ps p.1) (at_any (λ x. is_wired ps x && list_any (λ b. has_bit (whole x) b && not (driven_by ps b)) (reads p.1)) (signals_of d) s.0 x s.2 (and-both _ _ wired bad))
                               (no_undriven d legal p.0 p.1 p.2))
                           | inr unread ↦ (
-                              let among : has_bit (flat_map whole (filter (is_wired ps) (signals d))) b ≡ true = whole_any (is_wired ps) (signals d) s.0 x b s.2 wired inside in
+                              let among : has_bit (flat_map whole (filter (is_wired ps) (signals_of d))) b ≡ true = whole_any (is_wired ps) (signals_of d) s.0 x b s.2 wired inside in
                               let test : (not (driven_by ps b) && not (read_by ps b)) ≡ true = and-both (not (driven_by ps b)) (not (read_by ps b)) (ap not by_none) (ap not unread) in
-                              let left : bit_at v b ≡ 0 = all_bits (λ b. bit_at v b ≡ 0) (λ b. not (driven_by ps b) && not (read_by ps b)) (flat_map whole (filter (is_wired ps) (signals d))) sv.idle b among test in
-                              let right : bit_at w b ≡ 0 = all_bits (λ b. bit_at w b ≡ 0) (λ b. not (driven_by ps b) && not (read_by ps b)) (flat_map whole (filter (is_wired ps) (signals d))) sw.idle b among test in
+                              let left : bit_at v b ≡ 0 = all_bits (λ b. bit_at v b ≡ 0) (λ b. not (driven_by ps b) && not (read_by ps b)) (flat_map whole (filter (is_wired ps) (signals_of d))) sv.idle b among test in
+                              let right : bit_at w b ≡ 0 = all_bits (λ b. bit_at w b ≡ 0) (λ b. not (driven_by ps b) && not (read_by ps b)) (flat_map whole (filter (is_wired ps) (signals_of d))) sw.idle b among test in
                               left ∙ sym right)
                         ]
                       ])
@@ -207,7 +207,7 @@ module _ (d : Design) (legal : IsLegal d) (v w : Valuation) (sv : IsSettled d v)
             ])
       ] in
       let test : r.is_feeding k j p q ≡ true =
-          and-both _ _ (and-both _ _ (and-both _ _ (ap not cp) (ap not cq)) (ap not other)) (bit_with (has_bit (drives q)) (reads p) b read dq) in
+      and-both _ _ (and-both _ _ (and-both _ _ (ap not cp) (ap not cq)) (ap not other)) (bit_with (has_bit (drives q)) (reads p) b read dq) in
       ap (λ o. elim o [ None ↦ false | Some p ↦ elim (slice_get ps j) [ None ↦ false | Some q ↦ r.is_feeding k j p q ] ]) ek ∙
       (ap (λ o. elim o [ None ↦ false | Some q ↦ r.is_feeding k j p q ]) ej ∙ test)
 
@@ -229,5 +229,5 @@ module _ (d : Design) (legal : IsLegal d) (v w : Valuation) (sv : IsSettled d v)
       settle (length ps) (k ∷ []) k p e c refl refl (at_below ps k p e, tt) (omega arith) (record { name = name; place = i }) h))
 
 -- two settled valuations with the same registers and inputs are the same
-pub unique : (d : Design) → IsLegal d → (v w : Valuation) → IsSettled d v → IsSettled d w → SameOn (registers d) v w → SameInputs d v w → v ≡ w
+pub unique : (d : Design) → IsLegal d → (v w : Valuation) → IsSettled d v → IsSettled d w → SameOn (registers_of d) v w → SameInputs d v w → v ≡ w
 unique d legal v w sv sw sr si = fun_ext (same_value d legal v w sv sw sr si)

@@ -113,8 +113,11 @@ write_settles v w p x b h =
     bit_of (if c then write_bits (v b.name) p.bits x else v b.name) b.place ≡ bit_of (if c then write_bits (w b.name) p.bits x else w b.name) b.place) [
       | true ↦ λ e. bits_settle b.name b.place p.bits x (v b.name) (w b.name)
           (elim h [ inl k ↦ inl k | inr k ↦ inr (ap (λ n. has_bit (flat_map (some_bit n) p.bits) b) (same_name b.name p.name e) ∙ k) ])
-      | false ↦ λ e. elim h [ inl k ↦ k | inr k ↦ absurd (
-          let s : bytes_eq b.name p.name ≡ true = ap (λ n. bytes_eq b.name n) (sym (named_by p.name p.bits b k)) ∙ name-itself b.name in cc) ]
+      | false ↦ λ e. elim h [
+        | inl k ↦ k
+        | inr k ↦ absurd (
+            let s : bytes_eq b.name p.name ≡ true = ap (λ n. bytes_eq b.name n) (sym (named_by p.name p.bits b k)) ∙ name-itself b.name in cc)
+      ]
     ] refl
 
 abbrev pub all_bits_of : List Place → List Bit

@@ -3,7 +3,7 @@ use Rattle.std.specs.Prelude.{codes, ◌≡◌, ℕ, if◌then◌else◌, List, 
 use Rattle.lv_ast.specs.declared.item.Module.{Module}
 use Rattle.lv_ast.specs.Names.{Name, spelled, known, alone, is_clock_sort}
 use Rattle.lv_source.specs.Scopes.{Scope, module_named}
-use Rattle.lv_source.specs.Parts.{Design, Part, At, parts, scopes, top_scope, numbered_from}
+use Rattle.lv_source.specs.Parts.{Design, Part, At, parts, scopes_of, top_scope, numbered_from}
 use Rattle.lv_source.specs.ScopeRules as s
 use Rattle.lv_source.specs.PartRules as p
 
@@ -29,7 +29,7 @@ pub data Kind : Type 0 where
 
 -- in each scope
 abbrev pub in_scopes : Design → (Scope → List ℕ) → List At
-in_scopes d f = flat_map (λ s. map (λ place. record { path = s.path; place = place }) (f s)) (scopes d)
+in_scopes d f = flat_map (λ s. map (λ place. record { path = s.path; place = place }) (f s)) (scopes_of d)
 
 -- at each part
 abbrev pub at_parts : Design → (List Part → ℕ → Part → List At) → List At

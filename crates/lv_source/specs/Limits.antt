@@ -15,7 +15,7 @@ use Rattle.lv_ast.specs.Names.{Names}
 use Rattle.lv_ast.specs.Effect.{ArmOf, arm_step, with_index, turns}
 use Rattle.lv_source.specs.Declarations.{Declaration, Direction, Wire, Reg, Parameter, Index, Instance, Label}
 use Rattle.lv_source.specs.Scopes.{Scope}
-use Rattle.lv_source.specs.Parts.{Design, parts, scopes}
+use Rattle.lv_source.specs.Parts.{Design, parts, scopes_of}
 use Rattle.lv_source.specs.Settled.{register_bits}
 
 -- ---- nodes of expressions
@@ -121,10 +121,10 @@ abbrev pub scope_size : Scope → Size
 scope_size s = sum_sizes (nodes_alone (sum (map declaration_nodes s.declarations)) ∷ map (item_size s) s.items)
 
 abbrev pub design_size : Design → Size
-design_size d = sum_sizes (map scope_size (scopes d))
+design_size d = sum_sizes (map scope_size (scopes_of d))
 
 pub record IsWithinLimits (d : Design) : Type 0 where
-  pub instances : length (scopes d) ≤ 4096
+  pub instances : length (scopes_of d) ≤ 4096
   pub turns : (design_size d).turns ≤ 1000000
   pub nodes : (design_size d).nodes ≤ 1000000
   pub parts : length (parts d) ≤ 65536

@@ -7,7 +7,7 @@ use Rattle.lv_model.specs.Design.{Design as ModelDesign}
 use Rattle.lv_ast.specs.Names.{Names, Declared, Valuation, path_text}
 use Rattle.lv_ast.specs.Places.{Bit, has_bit, whole}
 use Rattle.lv_ast.specs.Meaning.{read_expr, own}
-use Rattle.lv_source.specs.Parts.{Design, Part, parts, signals, registers, is_clocked, drives, reads}
+use Rattle.lv_source.specs.Parts.{Design, Part, parts, signals_of, registers_of, is_clocked, drives, reads}
 use Rattle.lv_source.specs.Settled.{IsSettled, Follows, SameInputs}
 
 pub record PortExprs : Type 0 where
@@ -28,13 +28,13 @@ pub record Contract : Type 0 where
 
 -- the names of all signals, by their paths from the top
 abbrev pub top_names : Design → Names
-top_names d p = find (λ x. bytes_eq x.path (path_text p)) (signals d)
+top_names d p = find (λ x. bytes_eq x.path (path_text p)) (signals_of d)
 
 abbrev pub observed : Design → Expr → Valuation → ℕ
 observed d e v = own (top_names d) e v
 
 abbrev pub register_candidates : Design → Bool → List (Candidate Valuation)
-register_candidates d wanted = if wanted then map (λ name. Eq (λ v. v name)) (registers d) else []
+register_candidates d wanted = if wanted then map (λ name. Eq (λ v. v name)) (registers_of d) else []
 
 abbrev pub aligned_candidates : Bool → List (Candidate Valuation)
 aligned_candidates wanted = if wanted then Aligned ∷ [] else []
@@ -73,4 +73,4 @@ bits_read d e = (read_expr (top_names d) e).reads
 
 -- it depends on some signal of the list
 abbrev pub DependsOn : Design → (Declared → Bool) → Expr → Type 0
-DependsOn d is e = (x : Declared) × (b : Bit) × Contains (signals d) x × IsTrue (is x) × IsTrue (has_bit (whole x) b) × Reaches d (bits_read d e) b
+DependsOn d is e = (x : Declared) × (b : Bit) × Contains (signals_of d) x × IsTrue (is x) × IsTrue (has_bit (whole x) b) × Reaches d (bits_read d e) b

@@ -6,7 +6,7 @@ use Rattle.lv_ast.specs.Places.{Bit, has_bit, whole}
 use Rattle.lv_ast.specs.Meaning.{all_constant}
 use Rattle.lv_ast.specs.Effect.{Piece}
 use Rattle.lv_source.specs.Flow.{Event, event_writes, flow, writes_of, is_latch, is_read_first}
-use Rattle.lv_source.specs.Parts.{Design, Part, At, Assign, Comb, Clocked, signals, drives, reads, is_clocked, is_comb, driven_by, is_wired}
+use Rattle.lv_source.specs.Parts.{Design, Part, At, Assign, Comb, Clocked, signals_of, drives, reads, is_clocked, is_comb, driven_by, is_wired}
 use Rattle.lv_source.specs.ScopeRules.{same_sign}
 
 -- the other parts
@@ -56,7 +56,7 @@ is_block p = elim p.body [ Assign ps value ↦ false | Comb names s ↦ true | C
 abbrev pub is_wrong_kind : Design → Part → Bool
 is_wrong_kind d p =
     list_any (if is_block p then is_no_reg else is_reg_piece) (targets p) ||
-    list_any (λ x. touches (drives p) x && not (same_sign (is_block p) (is_variable_sort x.sort)) && not (is_input_sort x.sort)) (signals d)
+    list_any (λ x. touches (drives p) x && not (same_sign (is_block p) (is_variable_sort x.sort)) && not (is_input_sort x.sort)) (signals_of d)
 
 abbrev pub wrong_kinds : Design → Part → List At
 wrong_kinds d p = told_if (is_wrong_kind d p) (target_places p)
@@ -85,7 +85,7 @@ is_shared ps k x =
     list_any (λ q. touches (reads q) x) (others k ps)
 
 abbrev pub is_blocking : Design → List Part → ℕ → Event → Bool
-is_blocking d ps k e = e.at_once && list_any (λ x. is_variable_sort x.sort && touches (event_writes e) x && is_shared ps k x) (signals d)
+is_blocking d ps k e = e.at_once && list_any (λ x. is_variable_sort x.sort && touches (event_writes e) x && is_shared ps k x) (signals_of d)
 
 abbrev pub blocking : Design → List Part → ℕ → Part → List At
 blocking d ps k p = if is_clocked p then map (λ e. at_place p e.place) (filter (is_blocking d ps k) (events p)) else []
@@ -108,8 +108,8 @@ abbrev pub is_two_drivers : Design → List Part → ℕ → Part → Bool
 is_two_drivers d ps k p =
     list_any (driven_by (others k ps)) (drives p) ||
     is_twice_named p ||
-    list_any (λ x. is_input_sort x.sort && touches (drives p) x) (signals d) ||
-    list_any (is_mixed ps p) (signals d)
+    list_any (λ x. is_input_sort x.sort && touches (drives p) x) (signals_of d) ||
+    list_any (is_mixed ps p) (signals_of d)
 
 abbrev pub two_drivers : Design → List Part → ℕ → Part → List At
 two_drivers d ps k p = told_if (is_two_drivers d ps k p) (target_places p)
@@ -117,7 +117,7 @@ two_drivers d ps k p = told_if (is_two_drivers d ps k p) (target_places p)
 -- ---- Undriven: the part reads a bit of a net or combinational variable that no part drives
 
 abbrev pub is_undriven : Design → List Part → Part → Bool
-is_undriven d ps p = list_any (λ x. is_wired ps x && list_any (λ b. has_bit (whole x) b && not (driven_by ps b)) (reads p)) (signals d)
+is_undriven d ps p = list_any (λ x. is_wired ps x && list_any (λ b. has_bit (whole x) b && not (driven_by ps b)) (reads p)) (signals_of d)
 
 abbrev pub undriven : Design → List Part → Part → List At
 undriven d ps p = told_if (is_undriven d ps p) (p.at ∷ [])

@@ -42,8 +42,8 @@ abbrev pub scopes_from : Design → Option Module → List Scope
 scopes_from d None = []
 scopes_from d (Some m) = scopes_within (suc (depth d.source)) d.source (top_scope d m)
 
-abbrev pub scopes : Design → List Scope
-scopes d = scopes_from d (module_named d.source d.top)
+abbrev pub scopes_of : Design → List Scope
+scopes_of d = scopes_from d (module_named d.source d.top)
 
 -- ---- signals
 
@@ -74,8 +74,8 @@ by_place (d ∷ ds) = put_by_place d (by_place ds)
 abbrev pub scope_signals : Scope → List Declared
 scope_signals s = by_place (flat_map (stands_here s) (numbered_from 0 s.declarations))
 
-abbrev pub signals : Design → List Declared
-signals d = flat_map scope_signals (scopes d)
+abbrev pub signals_of : Design → List Declared
+signals_of d = flat_map scope_signals (scopes_of d)
 
 -- ---- parts
 
@@ -185,7 +185,7 @@ abbrev pub scope_parts : Source → Scope → List Part
 scope_parts source s = flat_map (item_parts source s) s.items
 
 abbrev pub parts : Design → List Part
-parts d = flat_map (scope_parts d.source) (scopes d)
+parts d = flat_map (scope_parts d.source) (scopes_of d)
 
 -- ---- what a part drives and reads
 
@@ -222,13 +222,13 @@ abbrev pub is_register : List Part → Declared → Bool
 is_register ps d = is_variable_sort d.sort && not (list_any (driven_by (filter is_comb ps)) (whole d))
 
 abbrev pub register_signals : Design → List Declared
-register_signals d = let ps : List Part = parts d in filter (is_register ps) (signals d)
+register_signals d = let ps : List Part = parts d in filter (is_register ps) (signals_of d)
 
-abbrev pub registers : Design → List Name
-registers d = flat_map cells (register_signals d)
+abbrev pub registers_of : Design → List Name
+registers_of d = flat_map cells (register_signals d)
 
-abbrev pub inputs : Design → List Name
-inputs d = flat_map cells (filter (λ x. is_input_sort x.sort) (signals d))
+abbrev pub inputs_of : Design → List Name
+inputs_of d = flat_map cells (filter (λ x. is_input_sort x.sort) (signals_of d))
 
 -- a net, or a variable that a combinational block drives
 abbrev pub is_wired : List Part → Declared → Bool
@@ -240,4 +240,4 @@ width_from [] name = 0
 width_from (d ∷ ds) name = if list_any (bytes_eq name) (cells d) then width_of d else width_from ds name
 
 abbrev pub width_at : Design → Name → ℕ
-width_at d name = width_from (signals d) name
+width_at d name = width_from (signals_of d) name

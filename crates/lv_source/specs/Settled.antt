@@ -2,13 +2,13 @@
 use Rattle.std.specs.Prelude.{◌≡◌, ℕ, ◌<◌, ◌^◌, not, ◌&&◌, List, [], ◌∷◌, Option, Some, None, All, flat_map, filter, find}
 use Rattle.lv_ast.specs.Names.{Name, Valuation}
 use Rattle.lv_ast.specs.Places.{Bit, has_bit, whole, bits_below, bit_at}
-use Rattle.lv_source.specs.Parts.{Design, Part, parts, signals, inputs, registers, after, drives, is_clocked, is_wired, driven_by, read_by, width_at}
+use Rattle.lv_source.specs.Parts.{Design, Part, parts, signals_of, inputs_of, registers_of, after, drives, is_clocked, is_wired, driven_by, read_by, width_at}
 
 -- bits that nothing drives and nothing reads
 abbrev pub idle_bits : Design → List Bit
 idle_bits d =
     let ps : List Part = parts d in
-    filter (λ b. not (driven_by ps b) && not (read_by ps b)) (flat_map whole (filter (is_wired ps) (signals d)))
+    filter (λ b. not (driven_by ps b) && not (read_by ps b)) (flat_map whole (filter (is_wired ps) (signals_of d)))
 
 pub record IsSettled (d : Design) (v : Valuation) : Type 0 where
   -- each value fits its signal, and there are no other values
@@ -26,7 +26,7 @@ abbrev pub next_bit : Design → Valuation → Bit → ℕ
 next_bit d v b = left_bit v b (find (λ p. is_clocked p && has_bit (drives p) b) (parts d))
 
 abbrev pub register_bits : Design → List Bit
-register_bits d = flat_map (λ name. bits_below (width_at d name) name) (registers d)
+register_bits d = flat_map (λ name. bits_below (width_at d name) name) (registers_of d)
 
 -- each register of w has the bits that v leaves
 abbrev pub Follows : Design → Valuation → Valuation → Type 0
@@ -36,7 +36,7 @@ abbrev pub SameOn : List Name → Valuation → Valuation → Type 0
 SameOn names l r = All (λ name. l name ≡ r name) names
 
 abbrev pub SameInputs : Design → Valuation → Valuation → Type 0
-SameInputs d l r = SameOn (inputs d) l r
+SameInputs d l r = SameOn (inputs_of d) l r
 
 abbrev pub NextFollows : Design → Valuation → List Valuation → Type 0
 NextFollows d v [] = Unit {0}
@@ -48,5 +48,5 @@ IsRun d (v ∷ vs) = IsSettled d v × NextFollows d v vs × IsRun d vs
 
 -- the first valuations have the same registers
 abbrev pub StartAlike : Design → List Valuation → List Valuation → Type 0
-StartAlike d (v ∷ vs) (w ∷ ws) = SameOn (registers d) v w
+StartAlike d (v ∷ vs) (w ∷ ws) = SameOn (registers_of d) v w
 StartAlike d _ _ = Unit {0}

@@ -5,18 +5,18 @@
 ghost use Rattle.std.specs.Prelude.{◌≡◌, ◌↔◌, List, Contains};
 ghost use Rattle.std.specs.List.{AllZip};
 ghost use Rattle.lv_ast.specs.Names.{Valuation};
-ghost use Rattle.lv_source.specs.Parts.{Design, At, registers};
+ghost use Rattle.lv_source.specs.Parts.{Design, At, registers_of};
 ghost use Rattle.lv_source.specs.Settled.{IsSettled, Follows, SameOn, SameInputs, IsRun, StartAlike};
 ghost use Rattle.lv_source.specs.Legal.{IsLegal, Kind, Refusal, HoldsAt, refusals};
 
 /// A legal source has at most one settled valuation for each state and each input.
 pub fn settled_valuation_is_one()
-    ensures { (d : Design) (v w : Valuation) → IsLegal d → IsSettled d v → IsSettled d w → SameOn (registers d) v w → SameInputs d v w → v ≡ w }
+    ensures { (d : Design) (v w : Valuation) → IsLegal d → IsSettled d v → IsSettled d w → SameOn (registers_of d) v w → SameInputs d v w → v ≡ w }
 {}
 
 /// The next registers depend on the settled valuation alone.
 pub fn next_state_is_one()
-    ensures { (d : Design) (v w u : Valuation) → IsSettled d w → IsSettled d u → Follows d v w → Follows d v u → SameOn (registers d) w u }
+    ensures { (d : Design) (v w u : Valuation) → IsSettled d w → IsSettled d u → Follows d v w → Follows d v u → SameOn (registers_of d) w u }
 {}
 
 /// A run of a legal source is determined by its first state and its inputs.

@@ -11,7 +11,7 @@ use Rattle.lv_ast.specs.Names.{Names, Declared, Valuation, known, is_signal_sort
 use Rattle.lv_ast.specs.Values.{nowhere}
 use Rattle.lv_ast.specs.Places.{Bit, Place, bit_at, has_bit, same_bit, place_bits, place_of, whole}
 use Rattle.lv_ast.specs.Meaning.{Reading, Choice, bits_named, index_reads, all_constant, meant, read_select}
-use Rattle.lv_ast.specs.Effect.{Piece, pieces, piece_step, piece_place, places, bits_in, write_all, assigned}
+use Rattle.lv_ast.specs.Effect.{Piece, pieces, piece_step, piece_place, aimed, places, bits_in, write_all, assigned}
 use Rattle.lv_source.specs.Flow.{writes_of}
 use Rattle.lv_source.specs.Parts.{Sink, sink_step, read_choice, read_layer, join_targets, as_target}
 use Rattle.lv_source.proofs.Each.{Each, each-join}
@@ -114,12 +114,12 @@ pub places_equal : (v w : Valuation) (ps : List Piece) → Each FaithfulPiece ps
 places_equal v w [] h s = refl
 places_equal v w (p ∷ ps) h s =
     let first : piece_place v p ≡ piece_place w p =
-    place_equal v w (known p.declared) p.choices (choices_equal v w p.choices h.0 (same-left (index_reads p.choices) (target_reads ps) v w s)) in
+    ap (aimed (is_signal_sort (known p.declared).sort)) (place_equal v w (known p.declared) p.choices (choices_equal v w p.choices h.0 (same-left (index_reads p.choices) (target_reads ps) v w s))) in
     let rest : places v ps ≡ places w ps = places_equal v w ps h.1 (same-right (index_reads p.choices) (target_reads ps) v w s) in
     ap (λ (q : Place). q ∷ places v ps) first ∙ ap (λ (qs : List Place). piece_place w p ∷ qs) rest
 
 constant_bits : (v : Valuation) (d : Declared) (cs : List Choice) → Each FaithfulChoice cs → all_constant cs ≡ true → (s k : Bool) → all_constant cs ≡ k → (b : Bit) →
-    has_bit (if s then (if k then place_bits (place_of d (map meant cs) nowhere) else whole d) else []) b ≡ true → has_bit (place_bits (place_of d (map meant cs) v)) b ≡ true
+    has_bit (if s then (if k then place_bits (place_of d (map meant cs) nowhere) else whole d) else []) b ≡ true → has_bit (place_bits (aimed s (place_of d (map meant cs) v))) b ≡ true
 constant_bits v d cs h c true true e b x = ap (λ (p : Place). has_bit (place_bits p) b) (place_equal v nowhere d cs (choices_fixed v nowhere cs h c)) ∙ x
 constant_bits v d cs h c true false e b x = cc
 constant_bits v d cs h c false k e b x = cc

@@ -11,9 +11,11 @@ pub mod Facts
 pub mod Faithful
 pub mod Fits
 pub mod Follows
+pub mod Frame
 pub mod Hierarchy
 pub mod Induction
 pub mod LegalA
+pub mod Numbers
 pub mod Pieces
 pub mod Pipeline
 pub mod Provenance

@@ -45,7 +45,7 @@ inside d name c (Some k ∷ ks) w b h =
       | inr e ↦ inside d name c ks w.1 b e
     ]
 
-outside : (bits : List (Option ℕ)) (b : Bit) → has_bit (place_bits (nowhere_place bits)) b ≡ true → ⊥
+pub outside : (bits : List (Option ℕ)) (b : Bit) → has_bit (place_bits (nowhere_place bits)) b ≡ true → ⊥
 outside [] b h = cc
 outside (k ∷ ks) b h = outside ks b h
 

@@ -10,7 +10,7 @@ use Rattle.lv_ast.specs.Places.{Bit, Place, bit_at, has_bit, same_bit, some_bit,
 use Rattle.lv_ast.specs.Effect.{write_all, bits_in}
 use Rattle.lv_source.proofs.Tests.{or-split, and-left, and-right, any-split, same_name, name-itself}
 
-abbrev bit_of : ℕ → ℕ → ℕ
+abbrev pub bit_of : ℕ → ℕ → ℕ
 bit_of a j = a / 2 ^ j % 2
 
 -- ---- one bit of a number
@@ -53,11 +53,11 @@ set_high a k x j h g =
     set_from a k x j (omega arith) ∙ (ap (bit_of (above a k x)) e ∙ (bit_at-suc (above a k x) (j - (k + 1)) ∙
     (ap (λ n. bit_of n (j - (k + 1))) (half_above a k x h) ∙ high_div a (k + 1) j (omega arith))))
 
-set_other : (a k x j : ℕ) → x < 2 → (j < k) ⊎ (k < j) → bit_of (set_bit a k x) j ≡ bit_of a j
+pub set_other : (a k x j : ℕ) → x < 2 → (j < k) ⊎ (k < j) → bit_of (set_bit a k x) j ≡ bit_of a j
 set_other a k x j h (inl g) = set_low a k x j g
 set_other a k x j h (inr g) = set_high a k x j h g
 
-apart : (j k : ℕ) → (j ≡ k) ⊎ ((j < k) ⊎ (k < j))
+pub apart : (j k : ℕ) → (j ≡ k) ⊎ ((j < k) ⊎ (k < j))
 apart j k = elim (j == k) as (λ c. (j == k) ≡ c → (j ≡ k) ⊎ ((j < k) ⊎ (k < j))) [
   | true ↦ λ e. inl (eqb-true j k e)
   | false ↦ λ e. elim (cases_lt j k) [

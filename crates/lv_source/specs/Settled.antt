@@ -1,7 +1,8 @@
 -- Settled valuations, the next state, and runs.
-use Rattle.std.specs.Prelude.{◌≡◌, ℕ, ◌<◌, ◌^◌, not, ◌&&◌, List, [], ◌∷◌, Option, Some, None, All, flat_map, filter, find}
-use Rattle.lv_ast.specs.Names.{Name, Valuation}
-use Rattle.lv_ast.specs.Places.{Bit, has_bit, whole, bits_below, bit_at}
+use Rattle.std.specs.Prelude.{◌≡◌, ℕ, ◌<◌, ◌^◌, not, ◌&&◌, List, [], ◌∷◌, Option, Some, None, All, flat_map, filter, find, slice_get, bytes_eq, true, false}
+use Rattle.std.specs.List.{list_any}
+use Rattle.lv_ast.specs.Names.{Name, Declared, Valuation}
+use Rattle.lv_ast.specs.Places.{Bit, has_bit, whole, cells, bits_below, bit_at}
 use Rattle.lv_source.specs.Parts.{Design, Part, parts, signals_of, inputs_of, registers_of, after, drives, is_clocked, is_wired, driven_by, read_by, width_at}
 
 -- bits that nothing drives and nothing reads
@@ -50,3 +51,9 @@ IsRun d (v ∷ vs) = IsSettled d v × NextFollows d v vs × IsRun d vs
 abbrev pub StartAlike : Design → List Valuation → List Valuation → Type 0
 StartAlike d (v ∷ vs) (w ∷ ws) = SameOn (registers_of d) v w
 StartAlike d _ _ = Unit {0}
+
+-- no two signals have a cell of one name, and each bit that a part without a clock drives is one of a signal
+pub record HasApartSignals (d : Design) : Type 0 where
+  pub apart : (i j : ℕ) (x y : Declared) (name : Name) → slice_get (signals_of d) i ≡ Some x → slice_get (signals_of d) j ≡ Some y →
+    list_any (bytes_eq name) (cells x) ≡ true → list_any (bytes_eq name) (cells y) ≡ true → x ≡ y
+  pub within : (k : ℕ) (p : Part) (b : Bit) → slice_get (parts d) k ≡ Some p → is_clocked p ≡ false → has_bit (drives p) b ≡ true → b.place < width_at d b.name

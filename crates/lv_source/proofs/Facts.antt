@@ -1,5 +1,5 @@
 -- What a legal source says of each of its parts.
-use Rattle.std.proofs.Common.{◌≡◌, inl, inr, ℕ, zero, suc, ◌<◌, Bool, true, false, ◌&&◌, ◌||◌, not, List, [], ◌∷◌, ◌++◌, length, map, refl, sym, ap, ◌∙◌, subst, arith, Some}
+use Rattle.std.proofs.Common.{◌≡◌, inl, inr, ℕ, zero, suc, ◌+◌, ◌<◌, Bool, true, false, ◌&&◌, ◌||◌, not, List, [], ◌∷◌, ◌++◌, length, map, refl, sym, ap, ◌∙◌, subst, arith, Some}
 use Rattle.std.specs.Prelude.{flat_map, filter, cond, slice_get, All, bytes_eq}
 use Rattle.std.specs.List.{list_any}
 use Rattle.std.proofs.lemmas.List.Elements.{All-head, All-tail}
@@ -29,6 +29,15 @@ numbered_none : {A B : Type 0} (f : ℕ × A → List B) (xs : List A) (j : ℕ)
 numbered_none f [] j h k x e = cc
 numbered_none f (y ∷ ys) j h zero x e = (j, ap (λ z. f (j, z)) (sym (some_same y x e)) ∙ append-none_left (f (j, y)) (flat_map f (numbered_from (suc j) ys)) h)
 numbered_none f (y ∷ ys) j h (suc k) x e = numbered_none f ys (suc j) (append-none_right (f (j, y)) (flat_map f (numbered_from (suc j) ys)) h) k x e
+
+numbered_at : {A B : Type 0} (f : ℕ × A → List B) (xs : List A) (j : ℕ) → flat_map f (numbered_from j xs) ≡ [] → (k : ℕ) (x : A) → slice_get xs k ≡ Some x → f (j + k, x) ≡ []
+numbered_at f [] j h k x e = cc
+numbered_at f (y ∷ ys) j h zero x e =
+    let z : j + 0 ≡ j = omega arith in
+    ap (λ i. f (i, x)) z ∙ (ap (λ z. f (j, z)) (sym (some_same y x e)) ∙ append-none_left (f (j, y)) (flat_map f (numbered_from (suc j) ys)) h)
+numbered_at f (y ∷ ys) j h (suc k) x e =
+    let z : j + suc k ≡ suc j + k = omega arith in
+    ap (λ i. f (i, x)) z ∙ numbered_at f ys (suc j) (append-none_right (f (j, y)) (flat_map f (numbered_from (suc j) ys)) h) k x e
 
 told_none : (b : Bool) (a : At) (ats : List At) → r.told_if b (a ∷ ats) ≡ [] → b ≡ false
 told_none true a ats h = cc
@@ -155,3 +164,17 @@ module _ (d : Design) (legal : IsLegal d) (k : ℕ) (p : Part) (e : slice_get (p
   no_mixed =
       let told : (i : ℕ) × (r.two_drivers d (parts d) i p ≡ []) = numbered_none (λ kp. r.two_drivers d (parts d) kp.0 kp.1) (parts d) 0 (legal.nothing TwoDrivers) k p e in
       or-none_right _ (list_any (r.is_mixed (parts d) p) (signals_of d)) (told_none (r.is_two_drivers d (parts d) told.0 p) p.at _ told.1)
+
+  pub no_two : r.is_two_drivers d (parts d) k p ≡ false
+  no_two =
+      let told : r.two_drivers d (parts d) (0 + k) p ≡ [] = numbered_at (λ kp. r.two_drivers d (parts d) kp.0 kp.1) (parts d) 0 (legal.nothing TwoDrivers) k p e in
+      let z : 0 + k ≡ k = omega arith in
+      told_none (r.is_two_drivers d (parts d) k p) p.at (map (λ q. r.at_place p q.path.place) (r.targets p)) (ap (λ i. r.two_drivers d (parts d) i p) (sym z) ∙ told)
+
+-- another part of the list
+pub other_any : (t : Part → Bool) (ps : List Part) (k j : ℕ) (q : Part) → slice_get ps j ≡ Some q → (j ≡ k → ⊥) → t q ≡ true → list_any t (r.others k ps) ≡ true
+other_any t [] k j q e n h = cc
+other_any t (p ∷ ps) zero zero q e n h = absurd (n refl)
+other_any t (p ∷ ps) zero (suc j) q e n h = at_any t ps j q e h
+other_any t (p ∷ ps) (suc k) zero q e n h = or-left (t p) (list_any t (r.others k ps)) (ap t (some_same p q e) ∙ h)
+other_any t (p ∷ ps) (suc k) (suc j) q e n h = or-right (t p) (list_any t (r.others k ps)) (other_any t ps k j q e (λ i. n (ap suc i)) h)

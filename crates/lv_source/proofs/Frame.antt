@@ -1,10 +1,9 @@
 -- A part leaves the bits that it doesn't drive as they are.
-use Rattle.std.proofs.Common.{◌≡◌, ◌⊎◌, inl, inr, ℕ, ◌+◌, ◌/◌, ◌%◌, ◌^◌, ◌<◌, Bool, true, false, ◌&&◌, ◌||◌, ◌==◌, not, List, [], ◌∷◌, ◌++◌, map, length, append_assoc, refl, sym, ap, ◌∙◌, subst, arith, Option, Some, None}
+use Rattle.std.proofs.Common.{◌≡◌, inl, inr, ℕ, ◌/◌, ◌%◌, ◌^◌, ◌<◌, Bool, true, false, ◌||◌, ◌==◌, not, List, [], ◌∷◌, ◌++◌, map, length, append_assoc, refl, sym, ap, ◌∙◌, arith, Option, Some, None}
 use Rattle.std.specs.Prelude.{flat_map, bytes_eq, if◌then◌else◌}
-use Rattle.std.specs.List.{list_any, list_all}
-use Rattle.std.proofs.lemmas.Bool.{eqb-true, eq-eqb}
+use Rattle.std.specs.List.{list_any}
+use Rattle.std.proofs.lemmas.Bool.{eq-eqb}
 use Rattle.lv_ast.specs.declared.expr.Expr.{Expr}
-use Rattle.lv_ast.specs.declared.stmt.Ident.{Ident}
 use Rattle.lv_ast.specs.declared.stmt.Target.{Target}
 use Rattle.lv_ast.specs.declared.stmt.Stmt.{Stmt, Row_of-Stmt, end_of-Stmt, more_of-Stmt, Row_of-Arm, end_of-Arm, more_of-Arm, Held-Stmt-If-2, None', Some'}
 use Rattle.lv_ast.specs.declared.stmt.Stmt.TheVariants as b
@@ -14,15 +13,15 @@ use Rattle.lv_ast.specs.Names.{Name, Names, Declared, Valuation, known, is_signa
 use Rattle.lv_ast.specs.Values.{nowhere}
 use Rattle.lv_ast.specs.Places.{Bit, Place, bit_at, has_bit, same_bit, some_bit, place_bits, place_of, set_bit, write_bits, write, whole}
 use Rattle.lv_ast.specs.Meaning.{Reading, Choice, read_expr, bits_named, all_constant, meant, constant_value}
-use Rattle.lv_ast.specs.Effect.{State, Effect, ArmOf, Piece, Update, pieces, aimed, piece_place, places, bits_in, write_all, assigned, effect_step, arm_step, executes, applied, left_by, in_order, each_turn, otherwise, is_set, arm_taken, is_default, unchanged, case_effect, with_index, turns}
-use Rattle.lv_source.specs.Flow.{Event, event_writes, event_surely, writes_of, Flow, Flows, still, one, then_flow, all_flows, looks, branches, flow_or, flow_step, flow, case_flow, block_writes}
+use Rattle.lv_ast.specs.Effect.{State, Effect, ArmOf, Piece, Update, pieces, aimed, piece_place, places, bits_in, write_all, assigned, effect_step, arm_step, executes, applied, left_by, in_order, each_turn, otherwise, is_set, arm_taken, is_default, unchanged, with_index, turns}
+use Rattle.lv_source.specs.Flow.{Event, event_writes, event_surely, writes_of, Flow, Flows, still, then_flow, all_flows, looks, branches, flow_or, flow_step, flow, block_writes}
 use Rattle.lv_source.proofs.Each.{Each, Pairs}
-use Rattle.lv_source.proofs.Tests.{or-left, or-split, or-none_left, or-none_right, any-split, any-left, any-right, and-both, decide, same_name, name-itself, not-false}
+use Rattle.lv_source.proofs.Tests.{or-left, or-none_left, or-none_right, any-split, any-left, any-right, and-both, decide, same_name, name-itself, not-false}
 use Rattle.lv_source.proofs.Faithful.{FaithfulChoice, place_equal, choices_fixed}
 use Rattle.lv_source.proofs.Within.{place_within, outside}
 use Rattle.lv_source.proofs.Writes.{bit_of, set_other, apart, all_bits_of}
 use Rattle.lv_source.proofs.Pieces.{FaithfulPiece, put, pieces_faithful}
-use Rattle.lv_source.proofs.Runs.{Covered, NoneOf, Outcome, none-left, none-right}
+use Rattle.lv_source.proofs.Runs.{Covered, NoneOf, none-left, none-right}
 use Rattle.lv_source.proofs.Follows.{follows}
 
 -- ---- writes
@@ -114,8 +113,10 @@ loop_keeps e f h at [] = still_keeps
 loop_keeps e f h at (k ∷ ks) = then_keeps (e (at k)) (λ s. each_turn at e ks s) (f (at k)) (all_flows (map (λ k. f (at k)) ks)) (h (at k)) (loop_keeps e f h at ks)
 
 now_keeps : (names : Names) (target : Target) (x : Expr) (place : ℕ) → Keeps (effect_step (Stmt-F.Now target x place) names) (flow_step (Stmt-F.Now target x place) names)
-now_keeps names target x place = record { kept = λ b h s.
-    put_kept (pieces names target) (read_expr names x) s.valuation (pieces_faithful names target) b (none-left (same_bit b) (writes_of (pieces names target)) [] h) }
+now_keeps names target x place = record {
+  kept = λ b h s.
+      put_kept (pieces names target) (read_expr names x) s.valuation (pieces_faithful names target) b (none-left (same_bit b) (writes_of (pieces names target)) [] h);
+}
 
 later_keeps : (names : Names) (target : Target) (x : Expr) (place : ℕ) → Keeps (effect_step (Stmt-F.Later target x place) names) (flow_step (Stmt-F.Later target x place) names)
 later_keeps names target x place = record { kept = λ b h s. refl }
@@ -145,9 +146,11 @@ if_keeps : (x : Expr) (e : Effect) (f : Flows) (o : Option Effect) (g : Option F
 if_keeps x e f o g h k names =
     let c : Reading = read_expr names x in
     let holds : Bool = not (constant_value names x == 0) in
-    record { kept = λ b n s. either_keeps (e names) (otherwise o names) (f names) (flow_or g names) (h names) (else_keeps o g k names) (is_set names s.valuation x) b s
-        (ap (λ es. has_bit (written es) b) (sym (branch_events c.constant holds (f names) (flow_or g names))) ∙
-        written-right (looks c.reads).events (branches c holds (f names) (flow_or g names)).events b n) }
+    record {
+      kept = λ b n s. either_keeps (e names) (otherwise o names) (f names) (flow_or g names) (h names) (else_keeps o g k names) (is_set names s.valuation x) b s
+          (ap (λ es. has_bit (written es) b) (sym (branch_events c.constant holds (f names) (flow_or g names))) ∙
+          written-right (looks c.reads).events (branches c holds (f names) (flow_or g names)).events b n);
+    }
 
 abbrev arm_events : Names → List (ArmOf Flows) → List Event
 arm_events names bs = flat_map (λ (a : ArmOf Flows). (a.body names).events) bs
@@ -220,9 +223,11 @@ once e = not e.at_once
 
 covered_once : (A : Bit → Bool) → ((b : Bit) → A b ≡ true) → (p : List Event) → list_any once p ≡ false → Covered A p
 covered_once A f [] h = tt
-covered_once A f (e ∷ es) h =
-    ((λ b x. f b), not-false e.at_once (or-none_left (once e) (list_any once es) h),
-    covered_once (λ b. A b || has_bit (event_surely e) b) (λ b. or-left (A b) (has_bit (event_surely e) b) (f b)) es (or-none_right (once e) (list_any once es) h))
+covered_once A f (e ∷ es) h = (
+  (λ b x. f b),
+  not-false e.at_once (or-none_left (once e) (list_any once es) h),
+  covered_once (λ b. A b || has_bit (event_surely e) b) (λ b. or-left (A b) (has_bit (event_surely e) b) (f b)) es (or-none_right (once e) (list_any once es) h),
+)
 
 each_covered : (A : Bit → Bool) → ((b : Bit) → A b ≡ true) → (ps : List (List Event)) → Each (NoneOf once) ps → Each (Covered A) ps
 each_covered A f [] h = tt

@@ -7,6 +7,7 @@ pub mod DesignA
 pub mod DesignM
 pub mod Determined
 pub mod Each
+pub mod Exists
 pub mod Facts
 pub mod Faithful
 pub mod Fits

@@ -26,13 +26,13 @@ use Rattle.lv_source.proofs.Provenance.{FaithfulBody, FaithfulPart, parts_faithf
 use Rattle.lv_source.proofs.Chains.{few, distinct-more, Way, way-more, circle}
 use Rattle.lv_source.proofs.Facts.{some_same, any_at, at_any, at_below, each_at, all_at, all_bits, all_names, cells_any, whole_any, no_latch, no_read_first, no_nonblocking, no_unfixed, no_wrong_kind, no_undriven, no_mixed}
 
-clash : {X : Type 0} (b : Bool) → b ≡ true → b ≡ false → X
+pub clash : {X : Type 0} (b : Bool) → b ≡ true → b ≡ false → X
 clash b h k = absurd (let e : true ≡ false = sym h ∙ k in cc)
 
 -- ---- what a part leaves
 
 -- what it reads and doesn't drive itself
-abbrev outside : Part → Bit → Bool
+abbrev pub outside : Part → Bit → Bool
 outside p b = has_bit (reads p) b && not (is_comb p && has_bit (drives p) b)
 
 all_kept : (ps : List Piece) → list_all (λ q. all_constant q.choices) ps ≡ true → filter (λ q. all_constant q.choices) ps ≡ ps
@@ -41,7 +41,7 @@ all_kept (p ∷ ps) h =
     ap (λ c. cond c (p ∷ filter (λ q. all_constant q.choices) ps) (filter (λ q. all_constant q.choices) ps)) (and-left (all_constant p.choices) (list_all (λ q. all_constant q.choices) ps) h) ∙
     ap (λ (qs : List Piece). p ∷ qs) (all_kept ps (and-right (all_constant p.choices) (list_all (λ q. all_constant q.choices) ps) h))
 
-body_settles : (a : At) (x : Body) → (let p : Part = record { at = a; body = x } in
+pub body_settles : (a : At) (x : Body) → (let p : Part = record { at = a; body = x } in
     FaithfulBody x → is_clocked p ≡ false → r.has_latch p ≡ false → r.reads_itself_first p ≡ false → list_any (λ e. is_comb p && not e.at_once) (r.events p) ≡ false → r.is_unfixed p ≡ false →
     (v w : Valuation) → Same (outside p) v w → (b : Bit) → has_bit (drives p) b ≡ true → bit_at (after p v) b ≡ bit_at (after p w) b)
 body_settles a (Assign ps value) f c l t o u v w same b h =
@@ -50,7 +50,7 @@ body_settles a (Assign ps value) f c l t o u v w same b h =
 body_settles a (Comb names s) f c l t o u v w same b h = block_settles names s l t o v w same b h
 body_settles a (Clocked names k s) f c l t o u v w same b h = cc
 
-comb_unclocked : (a : At) (x : Body) → (let p : Part = record { at = a; body = x } in is_comb p ≡ true → is_clocked p ≡ false)
+pub comb_unclocked : (a : At) (x : Body) → (let p : Part = record { at = a; body = x } in is_comb p ≡ true → is_clocked p ≡ false)
 comb_unclocked a (Assign ps value) h = cc
 comb_unclocked a (Comb names s) h = refl
 comb_unclocked a (Clocked names c s) h = cc
@@ -61,7 +61,7 @@ clocked_block a (Comb names s) h = cc
 clocked_block a (Clocked names c s) h = refl
 
 -- a part of the filtered list is one of the list
-filtered_any : (q t : Part → Bool) (ps : List Part) → list_any t (filter q ps) ≡ true → list_any (λ p. q p && t p) ps ≡ true
+pub filtered_any : (q t : Part → Bool) (ps : List Part) → list_any t (filter q ps) ≡ true → list_any (λ p. q p && t p) ps ≡ true
 filtered_any q t [] h = cc
 filtered_any q t (p ∷ ps) h = elim (q p) as (λ c. list_any t (cond c (p ∷ filter q ps) (filter q ps)) ≡ true → ((c && t p) || list_any (λ p. q p && t p) ps) ≡ true) [
   | true ↦ λ k. elim (or-split (t p) (list_any t (filter q ps)) k) [ inl e ↦ or-left (t p) _ e | inr e ↦ or-right (t p) _ (filtered_any q t ps e) ]
@@ -69,19 +69,39 @@ filtered_any q t (p ∷ ps) h = elim (q p) as (λ c. list_any t (cond c (p ∷ f
 ] h
 
 -- an element with a property, from the list of bits
-some_bit_with : (q : Bit → Bool) (bs : List Bit) → list_any q bs ≡ true → (b : Bit) × (has_bit bs b ≡ true) × (q b ≡ true)
+pub some_bit_with : (q : Bit → Bool) (bs : List Bit) → list_any q bs ≡ true → (b : Bit) × (has_bit bs b ≡ true) × (q b ≡ true)
 some_bit_with q [] h = cc
 some_bit_with q (c ∷ cs) h = elim (or-split (q c) (list_any q cs) h) [
   | inl e ↦ (c, has-head c cs, e)
   | inr e ↦ (let rest : (b : Bit) × (has_bit cs b ≡ true) × (q b ≡ true) = some_bit_with q cs e in (rest.0, or-right (same_bit rest.0 c) (has_bit cs rest.0) rest.1, rest.2))
 ]
 
-bit_with : (q : Bit → Bool) (bs : List Bit) (b : Bit) → has_bit bs b ≡ true → q b ≡ true → list_any q bs ≡ true
+pub bit_with : (q : Bit → Bool) (bs : List Bit) (b : Bit) → has_bit bs b ≡ true → q b ≡ true → list_any q bs ≡ true
 bit_with q [] b h k = cc
 bit_with q (c ∷ cs) b h k = elim (or-split (same_bit b c) (has_bit cs b) h) [
   | inl e ↦ or-left (q c) (list_any q cs) (ap q (sym (same_bits b c e)) ∙ k)
   | inr e ↦ or-right (q c) (list_any q cs) (bit_with q cs b e k)
 ]
+
+pub fed : (d : Design) (k j : ℕ) (p q : Part) → slice_get (parts d) k ≡ Some p → slice_get (parts d) j ≡ Some q → is_clocked p ≡ false → is_clocked q ≡ false → (b : Bit) → outside p b ≡ true → has_bit (drives q) b ≡ true →
+    r.feeds (parts d) k j ≡ true
+fed d k j p q ek ej cp cq b out dq =
+    let read : has_bit (reads p) b ≡ true = and-left (has_bit (reads p) b) (not (is_comb p && has_bit (drives p) b)) out in
+    let own : (is_comb p && has_bit (drives p) b) ≡ false = not-true (is_comb p && has_bit (drives p) b) (and-right (has_bit (reads p) b) (not (is_comb p && has_bit (drives p) b)) out) in
+    let other : ((k == j) && is_comb p) ≡ false = elim (decide (k == j)) [
+      | inr n ↦ ap (λ z. z && is_comb p) n
+      | inl e ↦ (
+          let same : p ≡ q = some_same p q (sym ek ∙ (ap (slice_get (parts d)) (eqb-true k j e) ∙ ej)) in
+          let driven : has_bit (drives p) b ≡ true = ap (λ z. has_bit (drives z) b) same ∙ dq in
+          elim (decide (is_comb p)) [
+            | inl comb ↦ clash (is_comb p && has_bit (drives p) b) (and-both (is_comb p) (has_bit (drives p) b) comb driven) own
+            | inr n ↦ ap (λ z. z && is_comb p) e ∙ n
+          ])
+    ] in
+    let test : r.is_feeding k j p q ≡ true =
+    and-both _ _ (and-both _ _ (and-both _ _ (ap not cp) (ap not cq)) (ap not other)) (bit_with (has_bit (drives q)) (reads p) b read dq) in
+    ap (λ o. elim o [ None ↦ false | Some p ↦ elim (slice_get (parts d) j) [ None ↦ false | Some q ↦ r.is_feeding k j p q ] ]) ek ∙
+    (ap (λ o. elim o [ None ↦ false | Some q ↦ r.is_feeding k j p q ]) ej ∙ test)
 
 module _ (d : Design) (legal : IsLegal d) (v w : Valuation) (sv : IsSettled d v) (sw : IsSettled d w) (sr : SameOn (registers_of d) v w) (si : SameInputs d v w) where
   abbrev ps : List Part
@@ -191,32 +211,12 @@ module _ (d : Design) (legal : IsLegal d) (v w : Valuation) (sv : IsSettled d v)
 
   -- ---- from part to part
 
-  fed : (k j : ℕ) (p q : Part) → slice_get ps k ≡ Some p → slice_get ps j ≡ Some q → is_clocked p ≡ false → is_clocked q ≡ false → (b : Bit) → outside p b ≡ true → has_bit (drives q) b ≡ true →
-      r.feeds ps k j ≡ true
-  fed k j p q ek ej cp cq b out dq =
-      let read : has_bit (reads p) b ≡ true = and-left (has_bit (reads p) b) (not (is_comb p && has_bit (drives p) b)) out in
-      let own : (is_comb p && has_bit (drives p) b) ≡ false = not-true (is_comb p && has_bit (drives p) b) (and-right (has_bit (reads p) b) (not (is_comb p && has_bit (drives p) b)) out) in
-      let other : ((k == j) && is_comb p) ≡ false = elim (decide (k == j)) [
-        | inr n ↦ ap (λ z. z && is_comb p) n
-        | inl e ↦ (
-            let same : p ≡ q = some_same p q (sym ek ∙ (ap (slice_get ps) (eqb-true k j e) ∙ ej)) in
-            let driven : has_bit (drives p) b ≡ true = ap (λ z. has_bit (drives z) b) same ∙ dq in
-            elim (decide (is_comb p)) [
-              | inl comb ↦ clash (is_comb p && has_bit (drives p) b) (and-both (is_comb p) (has_bit (drives p) b) comb driven) own
-              | inr n ↦ ap (λ z. z && is_comb p) e ∙ n
-            ])
-      ] in
-      let test : r.is_feeding k j p q ≡ true =
-      and-both _ _ (and-both _ _ (and-both _ _ (ap not cp) (ap not cq)) (ap not other)) (bit_with (has_bit (drives q)) (reads p) b read dq) in
-      ap (λ o. elim o [ None ↦ false | Some p ↦ elim (slice_get ps j) [ None ↦ false | Some q ↦ r.is_feeding k j p q ] ]) ek ∙
-      (ap (λ o. elim o [ None ↦ false | Some q ↦ r.is_feeding k j p q ]) ej ∙ test)
-
   settle : (fuel : ℕ) (xs : List ℕ) (k : ℕ) (p : Part) → slice_get ps k ≡ Some p → is_clocked p ≡ false → Way ps xs k → r.are_distinct xs ≡ true → Each (λ i. i < length ps) xs →
       length ps < fuel + length xs → (b : Bit) → has_bit (drives p) b ≡ true → bit_at v b ≡ bit_at w b
   settle zero xs k p e c way distinct below room b h = absurd (let most : length xs ≤ length ps = few (length ps) xs distinct below in omega arith)
   settle (suc fuel) xs k p e c way distinct below room b h =
       part_settles k p e c (λ x out. bit_settles x (λ j q ej cq dq.
-      (let feed : r.feeds ps k j ≡ true = fed k j p q e ej c cq x out dq in
+      (let feed : r.feeds ps k j ≡ true = fed d k j p q e ej c cq x out dq in
       elim (decide (list_any (λ i. i == j) xs)) [
         | inl seen ↦ (let ring : (ks : List ℕ) × (r.is_cycle ps ks ≡ true) = circle ps xs k j way distinct feed seen in absurd (legal.no_cycle ring.0 ring.1))
         | inr unseen ↦ settle fuel (xs ++ j ∷ []) j q ej cq (way-more ps xs k j way feed) (distinct-more xs j distinct unseen)

@@ -55,5 +55,5 @@ StartAlike d _ _ = Unit {0}
 -- no two signals have a cell of one name, and each bit that a part without a clock drives is one of a signal
 pub record HasApartSignals (d : Design) : Type 0 where
   pub apart : (i j : ℕ) (x y : Declared) (name : Name) → slice_get (signals_of d) i ≡ Some x → slice_get (signals_of d) j ≡ Some y →
-    list_any (bytes_eq name) (cells x) ≡ true → list_any (bytes_eq name) (cells y) ≡ true → x ≡ y
+      list_any (bytes_eq name) (cells x) ≡ true → list_any (bytes_eq name) (cells y) ≡ true → x ≡ y
   pub within : (k : ℕ) (p : Part) (b : Bit) → slice_get (parts d) k ≡ Some p → is_clocked p ≡ false → has_bit (drives p) b ≡ true → b.place < width_at d b.name

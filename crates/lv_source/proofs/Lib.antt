@@ -26,6 +26,7 @@ pub mod Refused
 pub mod Runs
 pub mod SafeA
 pub mod Settles
+pub mod SettlesA
 pub mod Tests
 pub mod Unique
 pub mod Within

@@ -145,9 +145,13 @@ abbrev pub told : Design → Name → Name
 told d [] = spelled d.top
 told d path = spelled d.top ++ codes "." ++ path
 
+-- a list of distinct parts, none clocked, each reading a bit that the next drives, and the last one a bit of the first
+abbrev pub HoldsCycle : Design → List ℕ → Type 0
+HoldsCycle d ks = IsTrue (p.is_cycle (parts d) ks)
+
 -- ---- legal sources
 
 -- no kind holds anywhere, and no list of parts is a cycle
 pub record IsLegal (d : Design) : Type 0 where
   pub nothing : (kind : Kind) → places_of d kind ≡ []
-  pub no_cycle : (ks : List ℕ) → IsTrue (p.is_cycle (parts d) ks) → ⊥
+  pub no_cycle : (ks : List ℕ) → HoldsCycle d ks → ⊥

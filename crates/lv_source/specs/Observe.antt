@@ -1,5 +1,5 @@
 -- The machine of a source with its contract.
-use Rattle.std.specs.Prelude.{ℕ, Bool, if◌then◌else◌, List, [], ◌∷◌, ◌++◌, map, bytes_eq, find, Contains, IsTrue, IsFalse}
+use Rattle.std.specs.Prelude.{ℕ, Bool, false, if◌then◌else◌, List, [], ◌∷◌, ◌++◌, map, bytes_eq, find, flat_map, Contains, IsTrue, IsFalse}
 use Rattle.lv_ast.specs.declared.expr.Expr.{Expr}
 use Rattle.lv_model.specs.Machine.{Machine}
 use Rattle.lv_model.specs.Design.{Observers, Candidate, Eq, When, Each, Aligned, machine_of}
@@ -8,6 +8,8 @@ use Rattle.lv_ast.specs.Names.{Names, Declared, Valuation, path_text}
 use Rattle.lv_ast.specs.Places.{Bit, has_bit, whole}
 use Rattle.lv_ast.specs.Meaning.{read_expr, own}
 use Rattle.lv_source.specs.Parts.{Design, Part, parts, signals_of, registers_of, is_clocked, drives, reads}
+use Rattle.lv_source.specs.Sites.{Site, expr_sites}
+use Rattle.lv_source.specs.NodeRules.{unknown_name, not_constant, zero_divisor, out_of_range}
 use Rattle.lv_source.specs.Settled.{IsSettled, Follows, SameInputs}
 
 pub record PortExprs : Type 0 where
@@ -74,3 +76,20 @@ bits_read d e = (read_expr (top_names d) e).reads
 -- it depends on some signal of the list
 abbrev pub DependsOn : Design → (Declared → Bool) → Expr → Type 0
 DependsOn d is e = (x : Declared) × (b : Bit) × Contains (signals_of d) x × IsTrue (is x) × IsTrue (has_bit (whole x) b) × Reaches d (bits_read d e) b
+
+-- ---- what may be wrong with an expression of the contract: its names are those of signals
+
+abbrev pub observed_sites : Design → Expr → List Site
+observed_sites d e = expr_sites false (top_names d) 0 e
+
+abbrev pub unknown_in : Design → Expr → List ℕ
+unknown_in d e = flat_map unknown_name (observed_sites d e)
+
+abbrev pub not_constant_in : Design → Expr → List ℕ
+not_constant_in d e = flat_map not_constant (observed_sites d e)
+
+abbrev pub zero_divisor_in : Design → Expr → List ℕ
+zero_divisor_in d e = flat_map zero_divisor (observed_sites d e)
+
+abbrev pub out_of_range_in : Design → Expr → List ℕ
+out_of_range_in d e = flat_map out_of_range (observed_sites d e)

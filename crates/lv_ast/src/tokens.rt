@@ -1,4 +1,4 @@
-use lv_bits::Text;
+use lv_bits::Bytes;
 use sqlite_items::Items;
 
 /// The kinds of token (IEEE 1364-2005, section 3).
@@ -38,5 +38,5 @@ pub struct Token {
 #[derive(Debug, Drop)]
 pub struct Tokens {
     pub list: Items<Token>,
-    pub text: Text,
+    pub text: Bytes,
 }

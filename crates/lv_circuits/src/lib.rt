@@ -8,5 +8,5 @@ mod shifts;
 mod words;
 
 pub use gates::{Kind, gate, mux};
-pub use rows::{binary, concat, mux_word, slice, unary};
+pub use rows::{binary, concat, constant, extend, mux_word, slice, unary};
 pub use words::{Sum, add, fold, negate, zip};

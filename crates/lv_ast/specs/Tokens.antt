@@ -26,6 +26,10 @@ is_printed c = is_between 33 126 c
 unfoldable pub is_free : ℕ → Bool
 is_free c = (c == 63) || (c == 90) || (c == 122)
 
+-- the letter of a signed literal
+unfoldable pub is_sign : ℕ → Bool
+is_sign c = (c == 115) || (c == 83)
+
 -- what a digit stands for, and 16 where it is none
 unfoldable pub digit_value : ℕ → ℕ
 digit_value c = if is_between 48 57 c then c - 48 else (if is_between 97 102 c then c - 87 else (if is_between 65 70 c then c - 55 else 16))
@@ -54,7 +58,7 @@ is_word (c ∷ cs) = is_letter c && list_all is_inner cs
 
 unfoldable pub without_sign : List ℕ → List ℕ
 without_sign [] = []
-without_sign (c ∷ cs) = if (c == 115) || (c == 83) then cs else c ∷ cs
+without_sign (c ∷ cs) = if is_sign c then cs else c ∷ cs
 
 unfoldable pub without_blanks : List ℕ → List ℕ
 without_blanks [] = []
@@ -68,7 +72,7 @@ is_digits base (c ∷ cs) = is_base_digit base c && list_all (is_base_byte base)
 -- the letter of a base, white space without a newline, and digits
 unfoldable pub is_base_and_digits : List ℕ → Bool
 is_base_and_digits [] = false
-is_base_and_digits (c ∷ cs) = nat_lt 0 (base_of c) && is_digits (base_of c) (without_blanks cs)
+is_base_and_digits (c ∷ cs) = not (base_of c == 0) && is_digits (base_of c) (without_blanks cs)
 
 abbrev pub marks : List (List ℕ)
 marks =
@@ -107,21 +111,29 @@ kind_of (c ∷ cs) =
 
 -- ---- literals
 
--- digits of a base after the number a: `_` is passed over, and a free digit counts as 0
-unfoldable pub digits_value : ℕ → ℕ → List ℕ → ℕ
-digits_value base a [] = a
-digits_value base a (c ∷ cs) = digits_value base (if c == 95 then a else a * base + (if is_free c then 0 else digit_value c)) cs
+-- the number that digits of a base stand for after the number a: f says what a digit counts, and `_` is passed over
+unfoldable pub digits_number : (ℕ → ℕ) → ℕ → ℕ → List ℕ → ℕ
+digits_number f base a [] = a
+digits_number f base a (c ∷ cs) = digits_number f base (if c == 95 then a else a * base + f c) cs
 
--- the same digits, where a free one counts as all ones and another as 0
-unfoldable pub digits_free : ℕ → ℕ → List ℕ → ℕ
-digits_free base a [] = a
-digits_free base a (c ∷ cs) = digits_free base (if c == 95 then a else a * base + (if is_free c then base - 1 else 0)) cs
+-- a free digit counts 0 in the value, and all ones among the free bits, where another counts 0
+abbrev pub value_digit : ℕ → ℕ
+value_digit c = if is_free c then 0 else digit_value c
+
+abbrev pub free_digit : ℕ → ℕ → ℕ
+free_digit base c = if is_free c then base - 1 else 0
+
+abbrev pub digits_value : ℕ → List ℕ → ℕ
+digits_value base cs = digits_number value_digit base 0 cs
+
+abbrev pub digits_free : ℕ → List ℕ → ℕ
+digits_free base cs = digits_number (free_digit base) base 0 cs
 
 -- of a based token: whether `s` stands in it, its base and its digits
 unfoldable pub based_signed : List ℕ → Bool
 based_signed [] = false
 based_signed (c ∷ []) = false
-based_signed (c ∷ d ∷ cs) = (d == 115) || (d == 83)
+based_signed (c ∷ d ∷ cs) = is_sign d
 
 abbrev pub tail : List ℕ → List ℕ
 tail [] = []
@@ -139,12 +151,12 @@ based_digits s = without_blanks (tail (without_sign (tail s)))
 
 -- the value of a number or of a based token, and its free bits as they are written
 abbrev pub literal_value : Kind → List ℕ → ℕ
-literal_value Number s = digits_value 10 0 s
-literal_value Based s = digits_value (based_base s) 0 (based_digits s)
+literal_value Number s = digits_value 10 s
+literal_value Based s = digits_value (based_base s) (based_digits s)
 literal_value _ s = 0
 
 abbrev pub literal_free : Kind → List ℕ → ℕ
-literal_free Based s = digits_free (based_base s) 0 (based_digits s)
+literal_free Based s = digits_free (based_base s) (based_digits s)
 literal_free _ s = 0
 
 -- no significant and no written free bit is above bit 127

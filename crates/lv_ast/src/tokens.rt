@@ -1,4 +1,3 @@
-use lv_bits::Bytes;
 ghost use Rattle.std.specs.Prelude.{IsTrue};
 ghost use Rattle.lv_ast.specs.TokenLists.{are_tokens};
 
@@ -43,7 +42,6 @@ pub struct Token {
 #[derive(Debug, Drop)]
 pub struct Tokens {
     pub list: Items<Token>,
-    pub text: Bytes,
     pub text: Text,
     ghost whole: { IsTrue (are_tokens text list) },
 }

@@ -2,46 +2,33 @@ ghost use Rattle.std.specs.Prelude.{◌≡◌, ℕ, ◌<◌, Bool, map, length, 
 ghost use Rattle.lv_netlist.specs.Run.{values_of};
 ghost use Rattle.lv_aig.specs.Edges.{Grows, IsValuation};
 ghost use Rattle.lv_circuits.specs.Words.{AllBelow, edge_at, word_of};
-ghost use Rattle.lv_netlist.specs.Net.{node_at, width_at};
-ghost use Rattle.lv_blast.specs.Encoding.{IsEncoding, FitsPorts, HasWords, word_at};
+ghost use Rattle.lv_netlist.specs.Net.{node_at, width_at, IsNet};
+ghost use Rattle.lv_blast.specs.Encoding.{input_widths, IsEncoding, FitsPorts, HasWords, word_at};
 
+use crate::encoded::Encoded;
 use crate::inputs::open_words;
 use crate::node::{node_word, word};
 use lv_aig::{And, Edge};
 use lv_bits::NoMemory;
-use lv_clauses::{ClauseSet, decided_sets_are_at_rest};
+use lv_clauses::decided_sets_are_at_rest;
 use lv_gates::encode;
 use lv_netlist::Graph;
 use sqlite_items::Items;
 use std::alloc::Global;
 
-/// A graph as clauses.
-#[derive(Drop)]
-pub struct Encoded {
-    set: ClauseSet,
-    gates: u64,
-}
-
-impl Encoded {
-    pub fn set(&self) -> &ClauseSet
-        ensures { result.now ≡ self.now.set }
-    {
-        &self.set
+// The widths of the inputs.
+fn widths_of(alloc: Global, graph: &Graph) -> Result<Vec<u32>, NoMemory>
+    ensures widths { IfOk result (λ ws. ws.items ≡ input_widths graph.now) }
+    ensures net { IsNet graph.now }
+{
+    let _ = graph.len();
+    let mut widths = Vec::new(alloc);
+    for i in 0..graph.inputs() {
+        let width = graph.input_width(i);
+        widths.reserve(1)?;
+        widths.push_reserved(width);
     }
-
-    /// The number of gates.
-    pub fn gates(&self) -> u64
-        ensures { result ≡ self.now.gates }
-    {
-        self.gates
-    }
-
-    pub fn into_set(self) -> ClauseSet
-        ensures { result ≡ self.set }
-    {
-        let Encoded { set, gates: _ } = self;
-        set
-    }
+    Ok(widths)
 }
 
 fn first(es: &[Edge]) -> Edge
@@ -75,12 +62,14 @@ fn all_words(
     Ok(words)
 }
 
-/// The clauses by which the goal is 1.
+/// The clauses by which the goal, a node of width 1, is 1, for a graph without registers. The first variables are the
+/// bits of the inputs, inputs in order and the lowest bit of each first.
 pub fn clauses_of(alloc: Global, graph: &Graph, goal: u64) -> Result<Encoded, NoMemory>
     requires combinational { graph.now.registers ≡ [] }
     requires within { goal < length graph.now.nodes }
     requires one { width_at graph.now.nodes goal ≡ 1 }
-    ensures { IfOk result (λ e. IsEncoding graph.now goal e.set) }
+    ensures encodes { IfOk result (λ e. IsEncoding graph.now goal e.set) }
+    ensures widths { IfOk result (λ e. e.widths ≡ input_widths graph.now) }
 {
     let mut and = And::new(alloc);
     let inputs = open_words(alloc, &mut and, graph)?;
@@ -91,5 +80,6 @@ pub fn clauses_of(alloc: Global, graph: &Graph, goal: u64) -> Result<Encoded, No
     let set = encode(alloc, &and, bits, edge)?;
     decided_sets_are_at_rest();
     let gates = and.len();
-    Ok(Encoded { set, gates })
+    let widths = widths_of(alloc, graph)?;
+    Ok(Encoded::new(set, widths, gates))
 }

@@ -48,9 +48,29 @@ enum Kind {
 /// The kind of an answer, its lines, and the literals of the first line, or the values that are true.
 fn answer(alloc: Global, set: &ClauseSet, budget: u64) -> Result<(Kind, u64, usize), NoMemory> {
     match solve(alloc, set, budget)? {
-        Answer::Model(found) => Ok((Kind::Model, 0, found.values().iter().filter(|value| **value).count())),
-        Answer::Refuted(log) => Ok((Kind::Refuted, log.len(), if log.len() == 0 { 9 } else { log.line(0).clause().lits().len() })),
-        Answer::Budget(log) => Ok((Kind::Budget, log.len(), if log.len() == 0 { 0 } else { log.line(0).clause().lits().len() })),
+        Answer::Model(found) => Ok((
+            Kind::Model,
+            0,
+            found.values().iter().filter(|value| **value).count(),
+        )),
+        Answer::Refuted(log) => Ok((
+            Kind::Refuted,
+            log.len(),
+            if log.len() == 0 {
+                9
+            } else {
+                log.line(0).clause().lits().len()
+            },
+        )),
+        Answer::Budget(log) => Ok((
+            Kind::Budget,
+            log.len(),
+            if log.len() == 0 {
+                0
+            } else {
+                log.line(0).clause().lits().len()
+            },
+        )),
     }
 }
 
@@ -72,7 +92,14 @@ fn answers_small_sets(rt: HostRuntime) -> Result<(), Fail> {
         (0, &[0], 1, Kind::Refuted, 1, 0),
         (3, &[1, -1, 0, 1, 0, 3, 0, -2, -3, 0], 0, Kind::Model, 0, 2),
         (4, chain, 0, Kind::Model, 0, 4),
-        (4, &[1, 0, -1, 2, 0, -2, 3, 0, -3, 4, 0, -4, 0], 1, Kind::Refuted, 1, 0),
+        (
+            4,
+            &[1, 0, -1, 2, 0, -2, 3, 0, -3, 4, 0, -4, 0],
+            1,
+            Kind::Refuted,
+            1,
+            0,
+        ),
         (2, &[1, 2, 0, -1, 2, 0, 1, -2, 0], 9, Kind::Model, 0, 2),
     ];
     for (k, (vars, dimacs, budget, kind, lines, count)) in cases.iter().enumerate() {
@@ -83,7 +110,12 @@ fn answers_small_sets(rt: HostRuntime) -> Result<(), Fail> {
             return Err(Fail::from("no memory"));
         };
         assert!(rt; got.0 == *kind, "case {k}: {:?}", got.0);
-        assert!(rt; got.1 == *lines && got.2 == *count, "case {k}: {} lines, {}", got.1, got.2);
+        assert!(rt;
+            got.1 == *lines && got.2 == *count,
+            "case {k}: {} lines, {}",
+            got.1,
+            got.2
+        );
     }
     Ok(())
 }
@@ -100,7 +132,11 @@ fn even(alloc: Global, set: &mut ClauseSet, vars: &[i64]) -> Result<(), NoMemory
             let mut clause: Vec<i64> = Vec::new(alloc);
             for (k, v) in vars.iter().enumerate() {
                 clause.reserve(1)?;
-                clause.push_reserved(if signs >> k.min(31) & 1 == 1 { v.wrapping_neg() } else { *v });
+                clause.push_reserved(if signs >> k.min(31) & 1 == 1 {
+                    v.wrapping_neg()
+                } else {
+                    *v
+                });
             }
             add(alloc, set, &clause)?;
         }
@@ -109,7 +145,14 @@ fn even(alloc: Global, set: &mut ClauseSet, vars: &[i64]) -> Result<(), NoMemory
 }
 
 /// The first is the majority of the others, of which the last is 0 where it is constant.
-fn majority(alloc: Global, set: &mut ClauseSet, out: i64, x: i64, y: i64, z: i64) -> Result<(), NoMemory> {
+fn majority(
+    alloc: Global,
+    set: &mut ClauseSet,
+    out: i64,
+    x: i64,
+    y: i64,
+    z: i64,
+) -> Result<(), NoMemory> {
     add(alloc, set, &[x.wrapping_neg(), y.wrapping_neg(), out])?;
     if z == 0 {
         add(alloc, set, &[x, out.wrapping_neg()])?;
@@ -171,7 +214,10 @@ fn refutes_a_sum_within_its_budget(rt: HostRuntime) -> Result<(), Fail> {
             return Err(Fail::from("no memory"));
         };
         println!(rt; "{bits} bits: {lines} lines")?;
-        assert!(rt; kind == Kind::Refuted, "{bits} bits: {kind:?}, {lines} lines");
+        assert!(rt;
+            kind == Kind::Refuted,
+            "{bits} bits: {kind:?}, {lines} lines"
+        );
     }
     Ok(())
 }

@@ -1,0 +1,5 @@
+pub mod Forms
+pub mod Heights
+pub mod Levels
+pub mod Lows
+pub mod Machine

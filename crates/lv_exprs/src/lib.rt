@@ -1,0 +1,7 @@
+//! Expressions (IEEE 1364-2005, section 5), read from tokens.
+#![tactic(auto)]
+
+mod operand;
+mod symbol;
+
+pub use symbol::{Based, Divider, Name, Number, Sign, Symbol};

@@ -1,3 +1,4 @@
 mod Ends
+mod Heights
 mod Kept
 mod Unique

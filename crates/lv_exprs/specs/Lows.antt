@@ -28,7 +28,7 @@ over_all (g ∷ s) h = over_all s (over g h)
 abbrev pub low : State → ℕ
 low (want s) = over_all s 1
 low (have s x) = over_all s (height x)
-low (casts s b) = over_all s 2
+low (casts s b) = over_all s 1
 low (shut s c x) = over_all s (1 + max (height c) (height x))
 low (dotted s x) = over_all s 1
 low (alone x) = 1
@@ -37,13 +37,10 @@ low (alone x) = 1
 abbrev pub index_base : Bool → Form → ℕ
 index_base p y = cond (p && is_path y) 1 (max (height y) 2)
 
-abbrev pub want_base : Bool → List Open → ℕ
-want_base p (o_index y ∷ s) = over_all s (index_base p y)
-want_base p s = over_all s 1
-
-abbrev pub plain_base : Bool → List Open → ℕ
-plain_base p (o_index y ∷ s) = over_all s (index_base p y)
-plain_base p s = over_all s 1
+-- where a number may be the one in brackets
+abbrev pub number_base : Bool → List Open → ℕ
+number_base p (o_index y ∷ s) = over_all s (index_base p y)
+number_base p s = over_all s 1
 
 abbrev pub bit_base : Bool → Form → Form → ℕ
 bit_base p y (plain n) = index_base p y
@@ -51,7 +48,7 @@ bit_base p y i = max (height y) (1 + height i)
 
 -- what it is whether a dot comes or not
 abbrev pub base : Bool → State → ℕ
-base p (want s) = want_base p s
-base p (have s (plain n)) = plain_base p s
+base p (want s) = number_base p s
+base p (have s (plain n)) = number_base p s
 base p (have s (bit y i)) = over_all s (bit_base p y i)
 base p s = low s

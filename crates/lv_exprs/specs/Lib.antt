@@ -3,3 +3,5 @@ pub mod Heights
 pub mod Levels
 pub mod Lows
 pub mod Machine
+pub mod Steps
+pub mod Trees

@@ -1,28 +1,25 @@
 use crate::symbol::{Divider, Number, Sign};
-use lv_ast::{Expr, Path, PathStep, Select};
+use lv_ast::{Expr, Literal, Path, PathStep, Select};
 use sqlite_items::Items;
 
-/// What may follow an operand besides an operator.
-#[derive(Clone, Copy)]
-pub enum Shape {
+/// An operand, as far as it matters what may follow it.
+#[derive(Drop)]
+pub enum Content {
     /// A number without a base: a based token may follow.
     Number(Number),
-    /// A name without selects.
-    Path,
-    /// A name and one select by a number without a base: a step of a path, if a dot follows.
-    Element(Number),
-    /// Another name with selects.
-    Selected,
-    /// Nothing else may follow.
-    Closed,
+    /// A name with its selects.
+    Name(Path, Items<Select>),
+    /// A name and one number in brackets: a step of a path, if a dot follows.
+    Element(Path, Number),
+    /// Anything else.
+    Tree(Expr),
 }
 
 /// An operand, and how far below the root it reaches.
 #[derive(Drop)]
 pub struct Operand {
-    pub tree: Expr,
+    pub content: Content,
     pub reach: u32,
-    pub shape: Shape,
 }
 
 /// What is open. A frame's number says how far below the root its parts reach.
@@ -52,4 +49,17 @@ pub enum Standing {
     Shut(Expr, Items<Expr>, u32),
     /// After the dot of a path.
     Dotted(Items<PathStep>, u64),
+}
+
+/// What one token does.
+#[derive(Drop)]
+pub enum Step {
+    /// It is taken.
+    Next(Standing),
+    /// It is taken, and ends an expression: a literal with free bits.
+    Whole(Literal),
+    /// It is not taken, and the tokens before it are an expression.
+    Done(Operand),
+    /// It is not taken, and the tokens before it are none.
+    Bad,
 }

@@ -1,4 +1,10 @@
-mod Ends
-mod Heights
-mod Kept
-mod Unique
+pub mod Answers
+pub mod Ends
+pub mod Followed
+pub mod Heights
+pub mod Kept
+pub mod Laws
+pub mod Shown
+pub mod Standing
+pub mod Unique
+pub mod Within

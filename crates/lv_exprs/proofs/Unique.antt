@@ -80,7 +80,7 @@ question_taken : (p : Bool) (s : List Open) (x : Form) (ks : List Symbol) → as
     read p (have s x) (t.Question ∷ ks) ≡ read p (want (o_question x ∷ s)) ks
 question_taken p s x ks h = met p s x t.Question ks (want (o_question x ∷ s)) (stays 2 1 s x h (omega arith) (λ q. omega arith) (omega arith)) refl
 
-stays_tight : (s : List Open) (x : Form) → reduce 13 s x ≡ have s x
+pub stays_tight : (s : List Open) (x : Form) → reduce 13 s x ≡ have s x
 stays_tight s x = stays 13 12 s x (asks_le s) (omega arith) (λ q. omega arith) (omega arith)
 
 bracket_taken : (p : Bool) (s : List Open) (x : Form) (ks : List Symbol) → 14 ≤ rank x →

@@ -105,7 +105,7 @@ is_none (x ∷ xs) = false
 
 -- one select by a number without a base may be a step
 abbrev pub indexed : Path → List Select → Content → Content
-indexed path [] (c.Number n) = c.Element path n
+indexed path ss (c.Number n) = cond (is_none ss) (c.Element path n) (c.Name path (ss ++ (s.Bit (e.Lit (plain_literal n)) ∷ [])))
 indexed path ss x = c.Name path (ss ++ (s.Bit (tree_of x) ∷ []))
 
 -- a token that closes what it can, and is then taken or not
@@ -168,8 +168,7 @@ question_of fs x = let l = lower 2 fs x in on (fr.Question (tree_of l.1.content)
 
 -- a literal with free bits stands alone
 abbrev pub alone_or : List Frame → Literal → Next → Next
-alone_or [] l otherwise = whole l
-alone_or (g ∷ fs) l otherwise = otherwise
+alone_or fs l otherwise = cond (is_none fs) (whole l) otherwise
 
 abbrev pub literal_or : List Frame → Literal → ℕ → Next → Next
 literal_or fs l reach otherwise = cond (nat_lt 0 l.wild) (alone_or fs l otherwise) (on fs (st.Have (whole_operand (e.Lit l) reach)))
@@ -183,9 +182,13 @@ indexes fs x (c.Name path ss) = on (fr.Index path ss x.reach ∷ fs) st.Want
 indexes fs x (c.Element path n) = on (fr.Index path (s.Bit (e.Lit (plain_literal n)) ∷ []) x.reach ∷ fs) st.Want
 indexes fs x _ = closes t.LeftBracket fs x
 
+-- a dot behind a step of a path
+abbrev pub dotted_on : List Frame → Path → Option ℕ → Next
+dotted_on fs path index = on fs (st.Dotted (steps_behind path index) path.place)
+
 abbrev pub dots : Bool → List Frame → Operand → Content → Next
-dots true fs x (c.Name path []) = on fs (st.Dotted (steps_behind path None) path.place)
-dots true fs x (c.Element path n) = on fs (st.Dotted (steps_behind path (Some n.value)) path.place)
+dots true fs x (c.Name path ss) = cond (is_none ss) (dotted_on fs path None) (closes t.Dot fs x)
+dots true fs x (c.Element path n) = dotted_on fs path (Some n.value)
 dots p fs x _ = closes t.Dot fs x
 
 abbrev pub after : Bool → Symbol → List Frame → Operand → Next

@@ -2,9 +2,17 @@
 #![tactic(auto)]
 
 mod build;
+mod classify;
+mod error;
+mod laws;
+mod literal;
 mod operand;
+mod read;
 mod stack;
 mod steps;
 mod symbol;
 
+pub use error::SyntaxError;
+pub use laws::{has_one_form, nothing_goes_on};
+pub use read::read_expr;
 pub use symbol::{Based, Divider, Name, Number, Sign, Symbol};

@@ -106,6 +106,15 @@ impl Stack {
         }
     }
 
+    pub fn is_empty(&self) -> bool
+        ensures { result ≡ step.is_none self.now.frames.items }
+    {
+        match self.frames.front() {
+            None => true,
+            Some(_) => false,
+        }
+    }
+
     /// The number of the top.
     pub fn top_mark(&self) -> u32
         ensures { result ≡ step.top_mark self.now.frames.items }

@@ -2,7 +2,7 @@
 use Rattle.std.proofs.Common.{◌≡◌, ℕ, ◌+◌, ◌≤◌, ◌<◌, List, [], ◌∷◌, ◌++◌, Option, Some, None, Bool, true, false, cond, nat_lt, max, refl, ap, sym, subst, ◌∙◌, arith, ◌&&◌, ◌⊎◌, inl, inr}
 use Rattle.std.proofs.lemmas.Bool.{lt-ltb, le-ltb, ltb-true, ltb-false}
 use Rattle.lv_ast.specs.declared.expr.Select.{Select}
-use Rattle.lv_ast.specs.declared.expr.Select.TheVariants as s
+use Rattle.lv_ast.specs.declared.expr.Select.TheVariants as sel
 use Rattle.lv_ast.specs.declared.expr.Path.{Path}
 use Rattle.lv_ast.specs.declared.expr.Literal.{Literal}
 use Rattle.lv_ast.specs.declared.expr.Expr.{Expr}
@@ -25,10 +25,10 @@ use Rattle.lv_exprs.specs.Trees.{made, tree, trees, path, index_of, steps_behind
 use Rattle.lv_exprs.specs.Machine.{Open, o_prefix, o_left, o_question, o_colon, o_paren, o_cast, o_brace, o_braces, o_repeat, o_repeats, o_index, o_part, State, want, have, casts, shut, dotted, alone, reduce, settle, pull, put_alone, want_shift, put_based, have_shift, shift, step, Sound}
 use Rattle.lv_exprs.specs.Steps as z
 use Rattle.lv_exprs.specs.Steps.{tree_of, operand, whole_operand, lower, Next, on, whole, ended, bad, is_none, indexed, closing, closes, next, nodes}
-use Rattle.lv_exprs.specs.Stands.{open_weight, depth, show, shown, content, placed, seen}
+use Rattle.lv_exprs.specs.Stands.{open_weight, depth, show, shown, content, placed, at, seen}
 use Rattle.lv_exprs.proofs.Unique.{stays_tight, level_le}
 use Rattle.lv_exprs.proofs.Kept.{Tight}
-use Rattle.lv_exprs.proofs.Shown.{two, content_tree, none_more, Seen, lowered, Follows, shut_shift, shuts, closing_follows}
+use Rattle.lv_exprs.proofs.Shown.{two, content_tree, none_more, Seen, lowered, Follows, shut_shift, shuts, closing_follows, same_both}
 
 weight_shown : (text : List ℕ) (n : ℕ) (g : Open) → z.frame_weight (show text n g) ≡ open_weight g
 weight_shown text n (o_prefix k) = refl
@@ -42,7 +42,7 @@ nodes_shown text (g ∷ s) = omega (arith, weight_shown text (depth s) g, nodes_
 -- ---- literals
 
 literal_follows : (text : List ℕ) (b : Bool) (s : List Open) (x : Form) (l : Literal) (n : ℕ) (m : State) (other : Next) → tree text x ≡ e.Lit l →
-    Follows text None m other → seen text (have s x) ≡ Some (shown text s, st.Have (whole_operand (e.Lit l) n)) →
+    Follows text None m other → seen text (have s x) ≡ (at (shown text s) (st.Have (whole_operand (e.Lit l) n))) →
     Follows text (cond b (put_alone s x) (Some (have s x))) m (cond b (z.alone_or (shown text s) l other) (on (shown text s) (st.Have (whole_operand (e.Lit l) n))))
 literal_follows text true [] x l n m other h f w = h
 literal_follows text true (g ∷ s) x l n m other h f w = f
@@ -59,11 +59,11 @@ reach_one : (text : List ℕ) (s : List Open) → depth s + 1 ≡ nodes (shown t
 reach_one text s = omega (arith, nodes_shown text s)
 
 want_follows : (text : List ℕ) (p : Bool) (s : List Open) (k : Symbol) → Follows text (want_shift s k) (want s) (z.before text k (shown text s))
-want_follows text p s (t.Name n) = ap (λ v. Some (shown text s, st.Have (operand (c.Name (path text (name n)) []) v))) (reach_one text s)
-want_follows text p s (t.Number n) = ap (λ v. Some (shown text s, st.Have (operand (c.Number n) v))) (reach_one text s)
+want_follows text p s (t.Name n) = ap (λ v. (at (shown text s) (st.Have (operand (c.Name (path text (name n)) []) v)))) (reach_one text s)
+want_follows text p s (t.Number n) = ap (λ v. (at (shown text s) (st.Have (operand (c.Number n) v)))) (reach_one text s)
 want_follows text p s (t.Based b) =
     literal_follows text (is_free (based b)) s (based b) (based_literal b) (nodes (shown text s) + 1) (want s) bad refl (λ y h. cc)
-    (ap (λ v. Some (shown text s, st.Have (whole_operand (e.Lit (based_literal b)) v))) (reach_one text s))
+    (ap (λ v. (at (shown text s) (st.Have (whole_operand (e.Lit (based_literal b)) v)))) (reach_one text s))
 want_follows text p s (t.Cast b) = refl
 want_follows text p s (t.Sign k) = led_follows text (leads k) s k
 want_follows text p s t.LeftParen = refl
@@ -100,15 +100,15 @@ plainly text p s x k n q f =
 sign_taken : (text : List ℕ) (p : Bool) (m w : State) (l : List Frame × Operand) (k : Sign) → nat_lt (level k) 2 ≡ false → Seen text m l →
     Follows text (shift p m (t.Sign k)) w (on (fr.Left k (tree_of l.1.content) (l.1.reach + 1) ∷ l.0) st.Want)
 sign_taken text p (have s x) w l k f h =
-    rw f (along (λ fs o. Some (fr.Left k (tree text x) (1 + depth s + height x) ∷ shown text s, st.Want) ≡ Some (fr.Left k (tree_of o.content) (o.reach + 1) ∷ fs, st.Want)) (shown text s) l.0 (placed text s x) l.1 h.0 h.1
-    (two (λ v n. Some (fr.Left k v n ∷ shown text s, st.Want)) (sym (content_tree text x)) (let q : 1 + depth s + height x ≡ depth s + height x + 1 = omega arith in q)))
+    rw f (along (λ fs o. (at (fr.Left k (tree text x) (1 + depth s + height x) ∷ shown text s) st.Want) ≡ (at (fr.Left k (tree_of o.content) (o.reach + 1) ∷ fs) st.Want)) (shown text s) l.0 (placed text s x) l.1 h.0 h.1
+    (two (λ v n. (at (fr.Left k v n ∷ shown text s) st.Want)) (sym (content_tree text x)) (let q : 1 + depth s + height x ≡ depth s + height x + 1 = omega arith in q)))
 sign_taken text p _ w l k f h = absurd h
 
 question_taken : (text : List ℕ) (p : Bool) (m w : State) (l : List Frame × Operand) → Seen text m l →
     Follows text (shift p m t.Question) w (on (fr.Question (tree_of l.1.content) (l.1.reach + 1) ∷ l.0) st.Want)
 question_taken text p (have s x) w l h =
-    along (λ fs o. Some (fr.Question (tree text x) (1 + depth s + height x) ∷ shown text s, st.Want) ≡ Some (fr.Question (tree_of o.content) (o.reach + 1) ∷ fs, st.Want)) (shown text s) l.0 (placed text s x) l.1 h.0 h.1
-    (two (λ v n. Some (fr.Question v n ∷ shown text s, st.Want)) (sym (content_tree text x)) (let q : 1 + depth s + height x ≡ depth s + height x + 1 = omega arith in q))
+    along (λ fs o. (at (fr.Question (tree text x) (1 + depth s + height x) ∷ shown text s) st.Want) ≡ (at (fr.Question (tree_of o.content) (o.reach + 1) ∷ fs) st.Want)) (shown text s) l.0 (placed text s x) l.1 h.0 h.1
+    (two (λ v n. (at (fr.Question v n ∷ shown text s) st.Want)) (sym (content_tree text x)) (let q : 1 + depth s + height x ≡ depth s + height x + 1 = omega arith in q))
 question_taken text p _ w l h = absurd h
 
 sign_refused : (text : List ℕ) (p : Bool) (m : State) (l : List Frame × Operand) (k : Sign) → nat_lt (level k) 2 ≡ true → Seen text m l → shift p m (t.Sign k) ≡ None
@@ -128,9 +128,9 @@ sign_follows text p false s x k f n q =
 -- ---- selects
 
 indexes_indexed : (fs : List Frame) (o : Operand) (y : Path) (ss : List Select) (w : Content) →
-    z.indexes fs o (indexed y ss w) ≡ on (fr.Index y (ss ++ (s.Bit (tree_of w) ∷ [])) o.reach ∷ fs) st.Want
+    z.indexes fs o (indexed y ss w) ≡ on (fr.Index y (ss ++ (sel.Bit (tree_of w) ∷ [])) o.reach ∷ fs) st.Want
 indexes_indexed fs o y [] (c.Number n) = refl
-indexes_indexed fs o y (a ∷ as) (c.Number n) = refl
+indexes_indexed fs o y (a ∷ bs) (c.Number n) = refl
 indexes_indexed fs o y ss (c.Name v bs) = refl
 indexes_indexed fs o y ss (c.Element v n) = refl
 indexes_indexed fs o y ss (c.Tree x) = refl
@@ -142,7 +142,7 @@ bracket_follows text p s (dot x m) n q = refl
 bracket_follows text p s (bit y i) n q =
     subst (λ (v : Next). Follows text (Some (want (o_index (bit y i) ∷ s))) (reduce 1 s (bit y i)) v)
     (sym (indexes_indexed (shown text s) (placed text s (bit y i)) (path text y) (made text y).selects (content text i)
-    ∙ ap (λ v. on (fr.Index (path text y) ((made text y).selects ++ (s.Bit v ∷ [])) (placed text s (bit y i)).reach ∷ shown text s) st.Want) (content_tree text i))) refl
+    ∙ ap (λ v. on (fr.Index (path text y) ((made text y).selects ++ (sel.Bit v ∷ [])) (placed text s (bit y i)).reach ∷ shown text s) st.Want) (content_tree text i))) refl
 bracket_follows text p s (part r y i j) n q = refl
 bracket_follows text p s (binary k x y) n q = absurd (let h : 13 ≤ level k = q in omega (arith, level_le k))
 bracket_follows text p s x n q = refused text p s x t.LeftBracket n q (λ fs w. refl)
@@ -155,7 +155,7 @@ NotNumber _ = Unit {0}
 
 indexed_other : (y : Path) (ss : List Select) (w : Content) → NotNumber (indexed y ss w)
 indexed_other y [] (c.Number n) = tt
-indexed_other y (a ∷ as) (c.Number n) = tt
+indexed_other y (a ∷ bs) (c.Number n) = tt
 indexed_other y ss _ = tt
 
 not_number : (text : List ℕ) (x : Form) → is_plain x ≡ false → NotNumber (content text x)
@@ -169,17 +169,17 @@ based_other b fs o _ h = refl
 
 dots_other : (fs : List Frame) (o : Operand) (y : Path) (ss : List Select) (w : Content) → NotNumber w → z.dots true fs o (indexed y ss w) ≡ closes t.Dot fs o
 dots_other fs o y ss (c.Number n) h = absurd h
-dots_other fs o y ss (c.Name v bs) h = rw (none_more ss (s.Bit (tree_of (c.Name v bs)))) refl
-dots_other fs o y ss (c.Element v n) h = rw (none_more ss (s.Bit (tree_of (c.Element v n)))) refl
-dots_other fs o y ss (c.Tree x) h = rw (none_more ss (s.Bit (tree_of (c.Tree x)))) refl
+dots_other fs o y ss (c.Name v bs) h = rw (none_more ss (sel.Bit (tree_of (c.Name v bs)))) refl
+dots_other fs o y ss (c.Element v n) h = rw (none_more ss (sel.Bit (tree_of (c.Element v n)))) refl
+dots_other fs o y ss (c.Tree x) h = rw (none_more ss (sel.Bit (tree_of (c.Tree x)))) refl
 
-dots_some : (fs : List Frame) (o : Operand) (y : Path) (a : Select) (as : List Select) (w : Content) → z.dots true fs o (indexed y (a ∷ as) w) ≡ closes t.Dot fs o
-dots_some fs o y a as (c.Number n) = refl
-dots_some fs o y a as _ = refl
+dots_some : (fs : List Frame) (o : Operand) (y : Path) (a : Select) (bs : List Select) (w : Content) → z.dots true fs o (indexed y (a ∷ bs) w) ≡ closes t.Dot fs o
+dots_some fs o y a bs (c.Number n) = refl
+dots_some fs o y a bs _ = refl
 
 dots_more : (fs : List Frame) (o : Operand) (y : Path) (ss : List Select) (w : Content) → is_none ss ≡ false → z.dots true fs o (indexed y ss w) ≡ closes t.Dot fs o
 dots_more fs o y [] w h = absurd (let q : true ≡ false = h in cc)
-dots_more fs o y (a ∷ as) w h = dots_some fs o y a as w
+dots_more fs o y (a ∷ bs) w h = dots_some fs o y a bs w
 
 -- a name with selects, or without
 some_selects : (text : List ℕ) (y : Form) → 14 ≤ rank y → is_path y ≡ false → is_none (made text y).selects ≡ false
@@ -259,25 +259,22 @@ casts_follow text p s b _ = λ y h. cc
 shuts_follow : (text : List ℕ) (p : Bool) (s : List Open) (x y : Form) (k : Symbol) →
     Follows text (shift p (shut s x y) k) (shut s x y) (z.shuts k (shown text s) (tree text x) (trees text y) (1 + depth s + max (height x) (height y)))
 shuts_follow text p s x y t.RightBrace =
-    ap (λ n. Some (shown text s, st.Have (whole_operand (e.Rep (tree text x) (trees text y)) n))) (let q : depth s + (1 + max (height x) (height y)) ≡ 1 + depth s + max (height x) (height y) = omega arith in q)
+    ap (λ n. (at (shown text s) (st.Have (whole_operand (e.Rep (tree text x) (trees text y)) n)))) (let q : depth s + (1 + max (height x) (height y)) ≡ 1 + depth s + max (height x) (height y) = omega arith in q)
 shuts_follow text p s x y _ = λ w h. cc
 
 dotted_follows : (text : List ℕ) (p : Bool) (s : List Open) (x : Form) (k : Symbol) →
     Follows text (shift p (dotted s x) k) (dotted s x) (z.named text (steps_behind (path text x) (index_of x)) (path text x).place k (shown text s))
-dotted_follows text p s x (t.Name m) = ap (λ v. Some (shown text s, st.Have (operand (c.Name (path text (dot x m)) []) v))) (reach_one text s)
+dotted_follows text p s x (t.Name m) = ap (λ v. (at (shown text s) (st.Have (operand (c.Name (path text (dot x m)) []) v)))) (reach_one text s)
 dotted_follows text p s x _ = λ w h. cc
-
-some_same : {A : Type 0} {x y : A} → Some x ≡ Some y → x ≡ y
-some_same e = cc
 
 none_some : {A : Type 0} {x : A} → None ≡ Some x → ⊥
 none_some e = cc
 
-carry : (text : List ℕ) (p : Bool) (o : Option State) (m : State) (k : Symbol) (fs gs : List Frame) (x y : Standing) → Some (fs, x) ≡ Some (gs, y) →
+carry : (text : List ℕ) (p : Bool) (o : Option State) (m : State) (k : Symbol) (fs gs : List Frame) (x y : Standing) → at fs x ≡ at gs y →
     Follows text o m (next text p k fs x) → Follows text o m (next text p k gs y)
-carry text p o m k fs gs x y h w = subst (λ (v : List Frame × Standing). Follows text o m (next text p k v.0 v.1)) (some_same h) w
+carry text p o m k fs gs x y h w = subst (λ (v : List Frame × Standing). Follows text o m (next text p k v.0 v.1)) (same_both fs gs x y h) w
 
-pub follows : (text : List ℕ) (p : Bool) (s : State) (k : Symbol) (fs : List Frame) (x : Standing) → Sound p s → Tight 13 s → seen text s ≡ Some (fs, x) →
+pub follows : (text : List ℕ) (p : Bool) (s : State) (k : Symbol) (fs : List Frame) (x : Standing) → Sound p s → Tight 13 s → seen text s ≡ at fs x →
     Follows text (step p s k) (settle 1 s) (next text p k fs x)
 follows text p (want s) k fs x n q h = carry text p _ _ k _ fs _ x h (want_follows text p s k)
 follows text p (have s y) k fs x n q h = carry text p _ _ k _ fs _ x h (have_follows text p s y k n q)

@@ -4,6 +4,7 @@ use Rattle.std.proofs.lemmas.Bool.{lt-ltb, le-ltb, ltb-true, ltb-false}
 use Rattle.lv_ast.specs.declared.expr.Select.{Select}
 use Rattle.lv_ast.specs.declared.expr.Select.TheVariants as s
 use Rattle.lv_ast.specs.declared.expr.Path.{Path}
+use Rattle.lv_ast.specs.declared.expr.Literal.{Literal}
 use Rattle.lv_ast.specs.declared.expr.Expr.{Expr}
 use Rattle.lv_ast.specs.declared.expr.Expr.TheVariants as e
 use Rattle.lv_exprs.specs.declared.symbol.Sign.{Sign}
@@ -25,16 +26,19 @@ use Rattle.lv_exprs.specs.Trees.{made, tree, trees, path, index_of, steps_behind
 use Rattle.lv_exprs.specs.Machine.{Open, o_prefix, o_left, o_question, o_colon, o_paren, o_cast, o_brace, o_braces, o_repeat, o_repeats, o_index, o_part, State, want, have, casts, shut, dotted, alone, reduce, settle, pull, put_alone, put_literal, want_shift, put_comma, put_divider, put_right_paren, put_right_brace, put_right_bracket, put_left_brace, put_based, have_shift, shift, step, Nested, Sound}
 use Rattle.lv_exprs.specs.Steps as z
 use Rattle.lv_exprs.specs.Steps.{tree_of, operand, whole_operand, stops, close, lower, Next, on, whole, ended, bad, is_none, indexed, closing, closes, next, nodes, frame_weight}
-use Rattle.lv_exprs.specs.Stands.{open_weight, depth, show, shown, content, placed, seen}
+use Rattle.lv_exprs.specs.Stands.{open_weight, depth, show, shown, content, placed, both, at, seen}
 use Rattle.lv_exprs.proofs.Unique.{stays_tight}
 use Rattle.lv_exprs.proofs.Kept.{Kept, Loose, Tight, settled}
 
-two : {A B : Type 0} (f : A → ℕ → B) {v w : A} {a b : ℕ} → v ≡ w → a ≡ b → f v a ≡ f w b
+pub two : {A B : Type 0} (f : A → ℕ → B) {v w : A} {a b : ℕ} → v ≡ w → a ≡ b → f v a ≡ f w b
 two {A} {B} f {v} {w} {a} {b} h k = ap (λ z. f z a) h ∙ ap (λ n. f w n) k
+
+pub same_both : (fs gs : List Frame) (x y : Standing) → at fs x ≡ at gs y → both fs x ≡ both gs y
+same_both fs gs x y e = cc
 
 indexed_tree : (y : Path) (ss : List Select) (x : Content) → tree_of (indexed y ss x) ≡ e.Name y (ss ++ (s.Bit (tree_of x) ∷ []))
 indexed_tree y [] (c.Number n) = refl
-indexed_tree y (a ∷ as) (c.Number n) = refl
+indexed_tree y (a ∷ bs) (c.Number n) = refl
 indexed_tree y ss (c.Name z bs) = refl
 indexed_tree y ss (c.Element z n) = refl
 indexed_tree y ss (c.Tree x) = refl
@@ -50,7 +54,7 @@ single : (text : List ℕ) (x : Form) → 1 ≤ rank x → trees text x ≡ tree
 single text (pair x y) h = absurd (omega arith)
 single text _ h = refl
 
-none_more : {A : Type 0} (xs : List A) (x : A) → is_none (xs ++ (x ∷ [])) ≡ false
+pub none_more : {A : Type 0} (xs : List A) (x : A) → is_none (xs ++ (x ∷ [])) ≡ false
 none_more [] x = refl
 none_more (y ∷ ys) x = refl
 
@@ -98,13 +102,13 @@ lowered text q (o_part r y i ∷ s) x = (refl, refl)
 
 -- ---- what a step shows
 
-abbrev pub IsWhole : List ℕ → State → _ → Type 0
+abbrev pub IsWhole : List ℕ → State → Literal → Type 0
 IsWhole text (alone x) l = tree text x ≡ e.Lit l
 IsWhole text _ l = ⊥
 
 -- what the code finds is what a step of the machine gives, or says how reading ends
 abbrev pub Follows : List ℕ → Option State → State → Next → Type 0
-Follows text (Some s) m (on fs x) = seen text s ≡ Some (fs, x)
+Follows text (Some s) m (on fs x) = seen text s ≡ at fs x
 Follows text (Some s) m (whole l) = IsWhole text s l
 Follows text None m (ended x) = (y : Form) × (m ≡ have [] y) × (tree text y ≡ tree_of x.content) × (height y ≡ x.reach)
 Follows text None m bad = (y : Form) → m ≡ have [] y → ⊥
@@ -139,7 +143,7 @@ top p (o_index y ∷ s) x n l = t_index y s x
 top p (o_part r y i ∷ s) x n l = t_part r y i s x
 
 -- what a token does that only closes
-abbrev shut_shift : List Open → Form → Symbol → Option State
+abbrev pub shut_shift : List Open → Form → Symbol → Option State
 shut_shift fs x (t.Divider r) = put_divider r fs x
 shut_shift fs x t.Comma = put_comma fs x
 shut_shift fs x t.RightParen = put_right_paren fs x
@@ -148,7 +152,7 @@ shut_shift fs x t.RightBracket = put_right_bracket fs x
 shut_shift fs x t.LeftBrace = put_left_brace fs x
 shut_shift fs x _ = None
 
-abbrev shuts : State → Symbol → Option State
+abbrev pub shuts : State → Symbol → Option State
 shuts (have s x) k = shut_shift s x k
 shuts _ k = None
 
@@ -160,8 +164,8 @@ abbrev form_of : State → Form
 form_of (have s x) = x
 form_of _ = plain (record { place = 0; value = 0 })
 
-have_on : (text : List ℕ) (s : List Open) {v w : Expr} {a b : ℕ} → v ≡ w → a ≡ b → Some (shown text s, st.Have (whole_operand v a)) ≡ Some (shown text s, st.Have (whole_operand w b))
-have_on text s h k = two (λ v n. Some (shown text s, st.Have (whole_operand v n))) h k
+have_on : (text : List ℕ) (s : List Open) {v w : Expr} {a b : ℕ} → v ≡ w → a ≡ b → (at (shown text s) (st.Have (whole_operand v a))) ≡ (at (shown text s) (st.Have (whole_operand w b)))
+have_on text s h k = two (λ v n. (at (shown text s) (st.Have (whole_operand v n)))) h k
 
 nothing : (g : Open) (s : List Open) (x y : Form) → have (g ∷ s) x ≡ have [] y → ⊥
 nothing g s x y h = cc
@@ -189,7 +193,7 @@ closers text (t_empty x) h k = empty k
     empty : (k : Symbol) → Follows text (shut_shift [] x k) (have [] x) (ended (placed text [] x))
     empty k = subst (λ (v : Option State). Follows text v (have [] x) (ended (placed text [] x))) (sym (none k)) (x, refl, sym (content_tree text x), omega arith)
 closers text (t_question a s x) h (t.Divider d.Colon) =
-    two (λ v n. Some (fr.Colon (tree text a) v n ∷ shown text s, st.Want)) (sym (content_tree text x))
+    two (λ v n. (at (fr.Colon (tree text a) v n ∷ shown text s) st.Want)) (sym (content_tree text x))
     (let q : 1 + depth s + max (height a) (height x) ≡ max (1 + depth s + height a) (1 + depth s + height x) = omega arith in q)
 closers text (t_question a s x) h (t.Divider _) = nothing _ _ _
 closers text (t_question a s x) h _ = nothing _ _ _
@@ -202,16 +206,16 @@ closers text (t_cast b s x) h (t.Divider d.Colon) = nothing _ _ _
 closers text (t_cast b s x) h (t.Divider _) = nothing _ _ _
 closers text (t_cast b s x) h _ = nothing _ _ _
 closers text (t_brace s x) h t.Comma =
-    two (λ v n. Some (fr.Brace v n ∷ shown text s, st.Want)) (longer text x h) (let q : 1 + depth s + height x ≡ max 0 (1 + depth s + height x) = omega arith in q)
+    two (λ v n. (at (fr.Brace v n ∷ shown text s) st.Want)) (longer text x h) (let q : 1 + depth s + height x ≡ max 0 (1 + depth s + height x) = omega arith in q)
 closers text (t_brace s x) h t.RightBrace =
     have_on text s (ap e.Cat (longer text x h)) (let q : depth s + (1 + height x) ≡ max 0 (1 + depth s + height x) = omega arith in q)
 closers text (t_brace s x) h t.LeftBrace =
-    two (λ v n. Some (fr.Repeat v [] n ∷ shown text s, st.Want)) (sym (content_tree text x)) refl
+    two (λ v n. (at (fr.Repeat v [] n ∷ shown text s) st.Want)) (sym (content_tree text x)) refl
 closers text (t_brace s x) h (t.Divider d.Colon) = nothing _ _ _
 closers text (t_brace s x) h (t.Divider _) = nothing _ _ _
 closers text (t_brace s x) h _ = nothing _ _ _
 closers text (t_braces y s x) h t.Comma =
-    two (λ v n. Some (fr.Brace v n ∷ shown text s, st.Want)) (longer_on text y x)
+    two (λ v n. (at (fr.Brace v n ∷ shown text s) st.Want)) (longer_on text y x)
     (let q : 1 + depth s + max (height y) (height x) ≡ max (1 + depth s + height y) (1 + depth s + height x) = omega arith in q)
 closers text (t_braces y s x) h t.RightBrace =
     have_on text s (ap e.Cat (longer_on text y x))
@@ -221,31 +225,31 @@ closers text (t_braces y s x) h (t.Divider d.Colon) = nothing _ _ _
 closers text (t_braces y s x) h (t.Divider _) = nothing _ _ _
 closers text (t_braces y s x) h _ = nothing _ _ _
 closers text (t_repeat a s x) h t.Comma =
-    two (λ v n. Some (fr.Repeat (tree text a) v n ∷ shown text s, st.Want)) (longer text x h)
+    two (λ v n. (at (fr.Repeat (tree text a) v n ∷ shown text s) st.Want)) (longer text x h)
     (let q : 1 + depth s + max (height a) (height x) ≡ max (1 + depth s + height a) (1 + depth s + height x) = omega arith in q)
 closers text (t_repeat a s x) h t.RightBrace =
-    two (λ v n. Some (shown text s, st.Shut (tree text a) v n)) (longer text x h)
+    two (λ v n. (at (shown text s) (st.Shut (tree text a) v n))) (longer text x h)
     (let q : 1 + depth s + max (height a) (height x) ≡ max (1 + depth s + height a) (1 + depth s + height x) = omega arith in q)
 closers text (t_repeat a s x) h (t.Divider d.Colon) = nothing _ _ _
 closers text (t_repeat a s x) h (t.Divider _) = nothing _ _ _
 closers text (t_repeat a s x) h _ = nothing _ _ _
 closers text (t_repeats a y s x) h t.Comma =
-    two (λ v n. Some (fr.Repeat (tree text a) v n ∷ shown text s, st.Want)) (longer_on text y x)
+    two (λ v n. (at (fr.Repeat (tree text a) v n ∷ shown text s) st.Want)) (longer_on text y x)
     (let q : 1 + depth s + max (height a) (max (height y) (height x)) ≡ max (1 + depth s + max (height a) (height y)) (1 + depth s + height x) = omega arith in q)
 closers text (t_repeats a y s x) h t.RightBrace =
-    two (λ v n. Some (shown text s, st.Shut (tree text a) v n)) (longer_on text y x)
+    two (λ v n. (at (shown text s) (st.Shut (tree text a) v n))) (longer_on text y x)
     (let q : 1 + depth s + max (height a) (max (height y) (height x)) ≡ max (1 + depth s + max (height a) (height y)) (1 + depth s + height x) = omega arith in q)
 closers text (t_repeats a y s x) h (t.Divider d.Colon) = nothing _ _ _
 closers text (t_repeats a y s x) h (t.Divider _) = nothing _ _ _
 closers text (t_repeats a y s x) h _ = nothing _ _ _
 closers text (t_index y s x) h t.RightBracket =
-    ap (λ n. Some (shown text s, st.Have (operand (content text (bit y x)) n)))
+    ap (λ n. (at (shown text s) (st.Have (operand (content text (bit y x)) n))))
     (let q : depth s + max (height y) (1 + height x) ≡ max (depth s + height y) (1 + depth s + height x) = omega arith in q)
 closers text (t_index y s x) h (t.Divider r) =
-    ap (λ v. Some (fr.Part r (path text y) (made text y).selects v (max (depth s + height y) (1 + depth s + height x)) ∷ shown text s, st.Want)) (sym (content_tree text x))
+    ap (λ v. (at (fr.Part r (path text y) (made text y).selects v (max (depth s + height y) (1 + depth s + height x)) ∷ shown text s) st.Want)) (sym (content_tree text x))
 closers text (t_index y s x) h _ = nothing _ _ _
 closers text (t_part r y i s x) h t.RightBracket =
-    two (λ v n. Some (shown text s, st.Have (operand (c.Name (path text y) ((made text y).selects ++ (part_select r (tree text i) v ∷ []))) n))) (sym (content_tree text x))
+    two (λ v n. (at (shown text s) (st.Have (operand (c.Name (path text y) ((made text y).selects ++ (part_select r (tree text i) v ∷ []))) n)))) (sym (content_tree text x))
     (let q : depth s + max (height y) (1 + max (height i) (height x)) ≡ max (max (depth s + height y) (1 + depth s + height i)) (1 + depth s + height x) = omega arith in q)
 closers text (t_part r y i s x) h (t.Divider d.Colon) = nothing _ _ _
 closers text (t_part r y i s x) h (t.Divider _) = nothing _ _ _

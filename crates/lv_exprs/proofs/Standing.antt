@@ -3,7 +3,7 @@ use Rattle.std.proofs.Common.{◌≡◌, ℕ, ◌+◌, ◌≤◌, ◌<◌, List,
 use Rattle.std.proofs.lemmas.List.{take_more}
 use Rattle.lv_ast.specs.declared.expr.Literal.{Literal}
 use Rattle.lv_ast.specs.declared.expr.Expr.{Expr}
-use Rattle.lv_ast.specs.declared.expr.Expr.TheVariants as e
+use Rattle.lv_ast.specs.declared.expr.Expr.TheVariants as tr
 use Rattle.lv_exprs.specs.declared.symbol.Symbol.{Symbol}
 use Rattle.lv_exprs.specs.declared.symbol.Symbol.TheVariants as t
 use Rattle.lv_exprs.specs.declared.operand.Operand.{Operand}
@@ -18,12 +18,12 @@ use Rattle.lv_exprs.specs.Lows.{over, over_all, low, base}
 use Rattle.lv_exprs.specs.Machine.{Open, o_prefix, o_left, o_question, o_colon, o_paren, o_cast, o_brace, o_braces, o_repeat, o_repeats, o_index, o_part, State, want, have, casts, shut, dotted, alone, reduce, settle, Outcome, done, stop, finish, step, run, start, Sound, told}
 use Rattle.lv_exprs.specs.Steps as z
 use Rattle.lv_exprs.specs.Steps.{tree_of, operand, nodes, marks, mark, reached, lower, ending, Next, on, whole, ended, bad, next}
-use Rattle.lv_exprs.specs.Stands.{Stands, open_weight, depth, show, shown, content, placed, seen}
+use Rattle.lv_exprs.specs.Stands.{Stands, open_weight, depth, show, shown, content, placed, at, seen}
 use Rattle.lv_exprs.specs.Reading.{Reads, Fails, IsTooHigh, ReadsTree}
 use Rattle.lv_exprs.proofs.Kept.{Spells}
 use Rattle.lv_exprs.proofs.Heights.{base_near, base_same}
 use Rattle.lv_exprs.proofs.Answers.{spelled_by, reads, reads_alone, fails, too_high, run_more}
-use Rattle.lv_exprs.proofs.Shown.{content_tree, Seen, lowered, Follows, IsWhole}
+use Rattle.lv_exprs.proofs.Shown.{content_tree, Seen, lowered, Follows, IsWhole, same_both}
 use Rattle.lv_exprs.proofs.Followed.{follows, nodes_shown}
 
 pub begin : (text : List ℕ) (p : Bool) (ts : List Symbol) → Stands text p ts 0 [] st.Want
@@ -40,14 +40,14 @@ next_of text p ts n fs x k w h e =
     let v : Spells p (take n ts) h.state = spelled_by p ts n h.state h.ran in
     subst (λ (u : Next). Follows text (step p h.state k) (settle 1 h.state) u) e (follows text p h.state k fs x v.sound v.fresh h.looks)
 
-on_some : (text : List ℕ) (o : Option State) (m : State) (fs : List Frame) (x : Standing) → Follows text o m (on fs x) → (s : State) × (o ≡ Some s) × (seen text s ≡ Some (fs, x))
+on_some : (text : List ℕ) (o : Option State) (m : State) (fs : List Frame) (x : Standing) → Follows text o m (on fs x) → (s : State) × (o ≡ Some s) × (seen text s ≡ at fs x)
 on_some text None m fs x h = absurd h
 on_some text (Some s) m fs x h = (s, refl, h)
 
 pub goes_on : (text : List ℕ) (p : Bool) (ts : List Symbol) (n : ℕ) (fs gs : List Frame) (x y : Standing) → Stands text p ts n fs x → n < length ts →
     next text p (get_or ts n t.Other) fs x ≡ on gs y → Stands text p ts (n + 1) gs y
 goes_on text p ts n fs gs x y h l e =
-    let f : (s : State) × (step p h.state (get_or ts n t.Other) ≡ Some s) × (seen text s ≡ Some (gs, y)) = on_some text _ _ gs y (next_of text p ts n fs x (get_or ts n t.Other) (on gs y) h e) in
+    let f : (s : State) × (step p h.state (get_or ts n t.Other) ≡ Some s) × (seen text s ≡ at gs y) = on_some text _ _ gs y (next_of text p ts n fs x (get_or ts n t.Other) (on gs y) h e) in
     record { state = f.0; ran = ap (run p start) (take_more ts n t.Other l) ∙ run_more p (take n ts) (get_or ts n t.Other) start h.state f.0 h.ran f.1; looks = f.2 }
 
 ended_none : (text : List ℕ) (o : Option State) (m : State) (x : Operand) → Follows text o m (ended x) → (o ≡ None) × ((y : Form) × (m ≡ have [] y) × (tree text y ≡ tree_of x.content) × (height y ≡ x.reach))
@@ -66,7 +66,7 @@ free_height (based b) e = refl
 free_height (sized n b) e = refl
 free_height _ e = absurd (let q : false ≡ true = e in cc)
 
-whole_some : (text : List ℕ) (o : Option State) (m : State) (l : Literal) → Follows text o m (whole l) → (x : Form) × (o ≡ Some (alone x)) × (tree text x ≡ e.Lit l)
+whole_some : (text : List ℕ) (o : Option State) (m : State) (l : Literal) → Follows text o m (whole l) → (x : Form) × (o ≡ Some (alone x)) × (tree text x ≡ tr.Lit l)
 whole_some text (Some (alone x)) m l h = (x, refl, h)
 whole_some text (Some (want s)) m l h = absurd h
 whole_some text (Some (have s x)) m l h = absurd h
@@ -76,9 +76,9 @@ whole_some text (Some (dotted s x)) m l h = absurd h
 whole_some text None m l h = absurd h
 
 pub is_whole : (text : List ℕ) (p : Bool) (ts : List Symbol) (n : ℕ) (fs : List Frame) (x : Standing) (l : Literal) → Stands text p ts n fs x → n < length ts →
-    next text p (get_or ts n t.Other) fs x ≡ whole l → ReadsTree text p ts (n + 1) (e.Lit l) 1
+    next text p (get_or ts n t.Other) fs x ≡ whole l → ReadsTree text p ts (n + 1) (tr.Lit l) 1
 is_whole text p ts n fs x l h w e =
-    let f : (y : Form) × (step p h.state (get_or ts n t.Other) ≡ Some (alone y)) × (tree text y ≡ e.Lit l) =
+    let f : (y : Form) × (step p h.state (get_or ts n t.Other) ≡ Some (alone y)) × (tree text y ≡ tr.Lit l) =
     whole_some text _ _ l (next_of text p ts n fs x (get_or ts n t.Other) (whole l) h e) in
     let r : run p start (take (n + 1) ts) ≡ Some (alone f.0) =
     ap (run p start) (take_more ts n t.Other w) ∙ run_more p (take n ts) (get_or ts n t.Other) start h.state (alone f.0) h.ran f.1 in
@@ -98,7 +98,7 @@ never text _ l h f y e = absurd h
 none_some : {A : Type 0} {x : A} → None ≡ Some x → ⊥
 none_some e = cc
 
-never_ends : (text : List ℕ) (s : State) (fs : List Frame) (x : Standing) → seen text s ≡ Some (fs, x) → ((y : Form) → settle 1 s ≡ have [] y → ⊥) → (y : Form) → finish (settle 1 s) [] ≡ done y [] → ⊥
+never_ends : (text : List ℕ) (s : State) (fs : List Frame) (x : Standing) → seen text s ≡ at fs x → ((y : Form) → settle 1 s ≡ have [] y → ⊥) → (y : Form) → finish (settle 1 s) [] ≡ done y [] → ⊥
 never_ends text (want s) fs x h f y e = cc
 never_ends text (casts s b) fs x h f y e = cc
 never_ends text (shut s v w) fs x h f y e = cc
@@ -114,7 +114,7 @@ is_bad text p ts n fs x h l e =
 
 -- ---- at the end
 
-not_want : (text : List ℕ) (s : State) (fs : List Frame) (x : Standing) → seen text s ≡ Some (fs, x) → ending fs x ≡ None → (y : Form) → settle 1 s ≡ have [] y → ⊥
+not_want : (text : List ℕ) (s : State) (fs : List Frame) (x : Standing) → seen text s ≡ at fs x → ending fs x ≡ None → (y : Form) → settle 1 s ≡ have [] y → ⊥
 not_want text (want s) fs x h e y f = cc
 not_want text (casts s b) fs x h e y f = cc
 not_want text (shut s v w) fs x h e y f = cc
@@ -122,8 +122,8 @@ not_want text (dotted s v) fs x h e y f = cc
 not_want text (alone v) fs x h e y f = none_some h
 not_want text (have s v) fs x h e y f = left (reduce 1 s v) (lower 1 (shown text s) (placed text s v)) (lowered text 1 s v) (end_of h e) f
   where
-    end_of : Some (shown text s, st.Have (placed text s v)) ≡ Some (fs, x) → ending fs x ≡ None → z.alone (lower 1 (shown text s) (placed text s v)) ≡ None
-    end_of h e = let q : (shown text s, st.Have (placed text s v)) ≡ (fs, x) = cc in ap (λ (u : List Frame × Standing). ending u.0 u.1) q ∙ e
+    end_of : (at (shown text s) (st.Have (placed text s v))) ≡ at fs x → ending fs x ≡ None → z.alone (lower 1 (shown text s) (placed text s v)) ≡ None
+    end_of h e = ap (λ (u : List Frame × Standing). ending u.0 u.1) (same_both (shown text s) fs (st.Have (placed text s v)) x h) ∙ e
     left : (m : State) (l : List Frame × Operand) → Seen text m l → z.alone l ≡ None → m ≡ have [] y → ⊥
     left m ([], o) k w g = none_some (sym w)
     left m (g ∷ gs, o) k w u = let q : Seen text (have [] y) (g ∷ gs, o) = subst (λ (m' : State). Seen text m' (g ∷ gs, o)) u k in let r : [] ≡ g ∷ gs = q.0 in cc
@@ -142,28 +142,19 @@ left_alone : (text : List ℕ) (m : State) (l : List Frame × Operand) (o : Oper
 left_alone text m ([], u) o h e = let q : u ≡ o = cc in emptied text m o (subst (λ (v : Operand). Seen text m ([], v)) q h)
 left_alone text m (g ∷ gs, u) o h e = absurd (none_some e)
 
-is_left : (text : List ℕ) (s : State) (fs : List Frame) (x : Standing) (o : Operand) → seen text s ≡ Some (fs, x) → ending fs x ≡ Some o →
+-- only an operand is left at the end
+no_operand : (fs gs : List Frame) (x y : Standing) (o : Operand) → at fs x ≡ at gs y → ending fs x ≡ None → ending gs y ≡ Some o → ⊥
+no_operand fs gs x y o h e f = none_some (sym e ∙ ap (λ (u : List Frame × Standing). ending u.0 u.1) (same_both fs gs x y h) ∙ f)
+
+is_left : (text : List ℕ) (s : State) (fs : List Frame) (x : Standing) (o : Operand) → seen text s ≡ at fs x → ending fs x ≡ Some o →
     (y : Form) × (settle 1 s ≡ have [] y) × (tree text y ≡ tree_of o.content) × (height y ≡ o.reach)
-is_left text (have s v) fs x o h e = left_alone text (reduce 1 s v) (lower 1 (shown text s) (placed text s v)) o (lowered text 1 s v) (end_of h e)
-  where
-    end_of : Some (shown text s, st.Have (placed text s v)) ≡ Some (fs, x) → ending fs x ≡ Some o → z.alone (lower 1 (shown text s) (placed text s v)) ≡ Some o
-    end_of h e = let q : (shown text s, st.Have (placed text s v)) ≡ (fs, x) = cc in ap (λ (u : List Frame × Standing). ending u.0 u.1) q ∙ e
-is_left text (want s) fs x o h e = absurd (ended_want h e)
-  where
-    ended_want : Some (shown text s, st.Want) ≡ Some (fs, x) → ending fs x ≡ Some o → ⊥
-    ended_want h e = let q : (shown text s, st.Want) ≡ (fs, x) = cc in none_some (ap (λ (u : List Frame × Standing). ending u.0 u.1) q ∙ e)
-is_left text (casts s b) fs x o h e = absurd (ended_cast h e)
-  where
-    ended_cast : Some (shown text s, st.Cast b) ≡ Some (fs, x) → ending fs x ≡ Some o → ⊥
-    ended_cast h e = let q : (shown text s, st.Cast b) ≡ (fs, x) = cc in none_some (ap (λ (u : List Frame × Standing). ending u.0 u.1) q ∙ e)
-is_left text (shut s v w) fs x o h e = absurd (ended_shut _ h e)
-  where
-    ended_shut : (i : ℕ) → Some (shown text s, st.Shut (tree text v) _ i) ≡ Some (fs, x) → ending fs x ≡ Some o → ⊥
-    ended_shut i h e = let q : (shown text s, st.Shut (tree text v) _ i) ≡ (fs, x) = cc in none_some (ap (λ (u : List Frame × Standing). ending u.0 u.1) q ∙ e)
-is_left text (dotted s v) fs x o h e = absurd (ended_dot _ _ h e)
-  where
-    ended_dot : (steps : _) (i : ℕ) → Some (shown text s, st.Dotted steps i) ≡ Some (fs, x) → ending fs x ≡ Some o → ⊥
-    ended_dot steps i h e = let q : (shown text s, st.Dotted steps i) ≡ (fs, x) = cc in none_some (ap (λ (u : List Frame × Standing). ending u.0 u.1) q ∙ e)
+is_left text (have s v) fs x o h e =
+    left_alone text (reduce 1 s v) (lower 1 (shown text s) (placed text s v)) o (lowered text 1 s v)
+    (ap (λ (u : List Frame × Standing). ending u.0 u.1) (same_both (shown text s) fs (st.Have (placed text s v)) x h) ∙ e)
+is_left text (want s) fs x o h e = absurd (no_operand _ fs _ x o h refl e)
+is_left text (casts s b) fs x o h e = absurd (no_operand _ fs _ x o h refl e)
+is_left text (shut s v w) fs x o h e = absurd (no_operand _ fs _ x o h refl e)
+is_left text (dotted s v) fs x o h e = absurd (no_operand _ fs _ x o h refl e)
 is_left text (alone v) fs x o h e = absurd (none_some h)
 
 pub ends_read : (text : List ℕ) (p : Bool) (ts : List Symbol) (n : ℕ) (fs : List Frame) (x : Standing) (o : Operand) → Stands text p ts n fs x → n ≡ length ts → ending fs x ≡ Some o →
@@ -184,25 +175,22 @@ marked : (text : List ℕ) (s : List Open) (h : ℕ) → over_all s h ≡ max (m
 marked text [] h = omega arith
 marked text (g ∷ s) h = omega (arith, marked text s (over g h), mark_over text (depth s) g h)
 
-pair_of : {A B : Type 0} {a c : A} {b d : B} → Some (a, b) ≡ Some (c, d) → (a, b) ≡ (c, d)
-pair_of e = cc
-
 -- the least height of what begins so, by the numbers that the code has
-low_seen : (text : List ℕ) (s : State) (fs : List Frame) (x : Standing) → seen text s ≡ Some (fs, x) → low s ≡ reached fs x
+low_seen : (text : List ℕ) (s : State) (fs : List Frame) (x : Standing) → seen text s ≡ at fs x → low s ≡ reached fs x
 low_seen text (want s) fs x e =
     (let a : over_all s 1 ≡ max (marks (shown text s)) (depth s + 1) = marked text s 1 in let b : nodes (shown text s) ≡ depth s = nodes_shown text s in
-    let c : over_all s 1 ≡ reached (shown text s) st.Want = omega arith in c) ∙ ap (λ (u : List Frame × Standing). reached u.0 u.1) (pair_of e)
-low_seen text (have s v) fs x e = marked text s (height v) ∙ ap (λ (u : List Frame × Standing). reached u.0 u.1) (pair_of e)
+    let c : over_all s 1 ≡ reached (shown text s) st.Want = omega arith in c) ∙ ap (λ (u : List Frame × Standing). reached u.0 u.1) (same_both _ fs _ x e)
+low_seen text (have s v) fs x e = marked text s (height v) ∙ ap (λ (u : List Frame × Standing). reached u.0 u.1) (same_both _ fs _ x e)
 low_seen text (casts s v) fs x e =
     (let a : over_all s 1 ≡ max (marks (shown text s)) (depth s + 1) = marked text s 1 in let b : nodes (shown text s) ≡ depth s = nodes_shown text s in
-    let c : over_all s 1 ≡ reached (shown text s) (st.Cast v) = omega arith in c) ∙ ap (λ (u : List Frame × Standing). reached u.0 u.1) (pair_of e)
+    let c : over_all s 1 ≡ reached (shown text s) (st.Cast v) = omega arith in c) ∙ ap (λ (u : List Frame × Standing). reached u.0 u.1) (same_both _ fs _ x e)
 low_seen text (shut s v w) fs x e =
     (let a : over_all s (1 + max (height v) (height w)) ≡ max (marks (shown text s)) (depth s + (1 + max (height v) (height w))) = marked text s (1 + max (height v) (height w)) in
     let c : over_all s (1 + max (height v) (height w)) ≡ max (marks (shown text s)) (1 + depth s + max (height v) (height w)) = omega arith in c)
-    ∙ ap (λ (u : List Frame × Standing). reached u.0 u.1) (pair_of e)
+    ∙ ap (λ (u : List Frame × Standing). reached u.0 u.1) (same_both _ fs _ x e)
 low_seen text (dotted s v) fs x e =
     (let a : over_all s 1 ≡ max (marks (shown text s)) (depth s + 1) = marked text s 1 in let b : nodes (shown text s) ≡ depth s = nodes_shown text s in
-    let c : over_all s 1 ≡ max (marks (shown text s)) (nodes (shown text s) + 1) = omega arith in c) ∙ ap (λ (u : List Frame × Standing). reached u.0 u.1) (pair_of e)
+    let c : over_all s 1 ≡ max (marks (shown text s)) (nodes (shown text s) + 1) = omega arith in c) ∙ ap (λ (u : List Frame × Standing). reached u.0 u.1) (same_both _ fs _ x e)
 low_seen text (alone v) fs x e = absurd (none_some e)
 
 over_base : (p : Bool) (s : State) (n : ℕ) → low s ≡ n → cond p 201 200 < n → 200 < base p s
@@ -213,5 +201,5 @@ over_base false s n e l = omega (arith, base_same s)
 pub is_deep : (text : List ℕ) (p : Bool) (ts : List Symbol) (n : ℕ) (fs gs : List Frame) (x y : Standing) → Stands text p ts n fs x → n < length ts →
     next text p (get_or ts n t.Other) fs x ≡ on gs y → cond p 201 200 < reached gs y → IsTooHigh 200 p ts n
 is_deep text p ts n fs gs x y h l e w =
-    let f : (s : State) × (step p h.state (get_or ts n t.Other) ≡ Some s) × (seen text s ≡ Some (gs, y)) = on_some text _ _ gs y (next_of text p ts n fs x (get_or ts n t.Other) (on gs y) h e) in
+    let f : (s : State) × (step p h.state (get_or ts n t.Other) ≡ Some s) × (seen text s ≡ at gs y) = on_some text _ _ gs y (next_of text p ts n fs x (get_or ts n t.Other) (on gs y) h e) in
     too_high 200 p ts n h.state f.0 l h.ran f.1 (over_base p f.0 (reached gs y) (low_seen text f.0 gs y f.2) w)

@@ -55,16 +55,22 @@ content text x = c.Tree (tree text x)
 abbrev pub placed : List ℕ → List Open → Form → Operand
 placed text s x = operand (content text x) (depth s + height x)
 
+abbrev pub both : List Frame → Standing → List Frame × Standing
+both fs x = (fs, x)
+
+abbrev pub at : List Frame → Standing → Option (List Frame × Standing)
+at fs x = Some (both fs x)
+
 abbrev pub seen : List ℕ → State → Option (List Frame × Standing)
-seen text (want s) = Some (shown text s, st.Want)
-seen text (have s x) = Some (shown text s, st.Have (placed text s x))
-seen text (casts s b) = Some (shown text s, st.Cast b)
-seen text (shut s x y) = Some (shown text s, st.Shut (tree text x) (trees text y) (1 + depth s + max (height x) (height y)))
-seen text (dotted s x) = Some (shown text s, st.Dotted (steps_behind (path text x) (index_of x)) (path text x).place)
+seen text (want s) = at (shown text s) st.Want
+seen text (have s x) = at (shown text s) (st.Have (placed text s x))
+seen text (casts s b) = at (shown text s) (st.Cast b)
+seen text (shut s x y) = at (shown text s) (st.Shut (tree text x) (trees text y) (1 + depth s + max (height x) (height y)))
+seen text (dotted s x) = at (shown text s) (st.Dotted (steps_behind (path text x) (index_of x)) (path text x).place)
 seen text (alone x) = None
 
 -- the machine has run over n tokens, and is seen like this
 pub record Stands (text : List ℕ) (p : Bool) (ts : List Symbol) (n : ℕ) (fs : List Frame) (x : Standing) : Type 0 where
   pub state : State
   pub ran : run p start (take n ts) ≡ Some state
-  pub looks : seen text state ≡ Some (fs, x)
+  pub looks : seen text state ≡ (at fs x)

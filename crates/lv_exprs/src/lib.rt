@@ -11,6 +11,8 @@ mod read;
 mod stack;
 mod steps;
 mod symbol;
+#[cfg(test)]
+mod tests;
 
 pub use error::SyntaxError;
 pub use laws::{has_one_form, nothing_goes_on};

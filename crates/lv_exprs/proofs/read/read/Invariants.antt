@@ -9,7 +9,7 @@ invariant-loop-at l = record {
   within : l.at ≤ length l.tokens;
   stands : Stands l.text l.paths (symbols l.text l.tokens) l.at l.stack.frames.items l.standing;
   low : reached l.stack.frames.items l.standing ≤ cond l.paths 201 200;
-  depth : l.stack.depth ≤ 201;
+  depth : l.stack.depth ≤ cond l.paths 201 200;
 }
 
 abbrev pub decreases-loop-at : goal.decreases-loop-at

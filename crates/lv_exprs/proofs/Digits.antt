@@ -1,5 +1,5 @@
 -- Digits in 128 bits.
-use Rattle.std.proofs.Common.{◌≡◌, ℕ, ◌+◌, ◌*◌, ◌%◌, ◌^◌, ◌<◌, Bool, true, false, if◌then◌else◌, List, [], ◌∷◌, drop, length, get_or, refl, ap, sym, ◌∙◌, subst, drop-cons}
+use Rattle.std.proofs.Common.{◌≡◌, ℕ, suc, arith, ◌+◌, ◌*◌, ◌%◌, ◌^◌, ◌<◌, Bool, true, false, if◌then◌else◌, List, [], ◌∷◌, drop, length, get_or, refl, ap, sym, ◌∙◌, subst, drop-cons}
 use Rattle.std.proofs.lemmas.Nat.{mul-mod_first}
 use Rattle.std.proofs.Math.Nat.{mod-add-mod, mod-mod}
 use Rattle.lv_exprs.specs.Literals.{is_passed, digit_bits, digits_number, is_free_digit, leads_free}
@@ -33,3 +33,6 @@ leads_on c cs p = rw p refl
 
 pub leads_there : (c : ℕ) (cs : List ℕ) → is_passed c ≡ false → is_free_digit c ≡ leads_free (c ∷ cs)
 leads_there c cs p = rw p refl
+
+pub dropped : (cs : List ℕ) (i : ℕ) → i < length cs → drop i cs ≡ get_or cs i 0 ∷ drop (i + 1) cs
+dropped cs i h = let e : suc i ≡ i + 1 = omega arith in drop-cons cs i 0 h ∙ ap (λ j. get_or cs i 0 ∷ drop j cs) e

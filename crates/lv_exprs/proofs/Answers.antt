@@ -1,13 +1,13 @@
 -- The three answers, from where a run stands.
-use Rattle.std.proofs.Common.{◌≡◌, ℕ, ◌+◌, ◌≤◌, ◌<◌, List, [], ◌∷◌, ◌++◌, Option, Some, None, Bool, true, false, refl, ap, sym, subst, ◌∙◌, arith, append_assoc, append-nil, IfSome, length, take, drop, get_or, ◌⊎◌, inl, inr}
+use Rattle.std.proofs.Common.{◌≡◌, ℕ, ◌+◌, ◌≤◌, ◌<◌, List, [], ◌∷◌, ◌++◌, Some, None, Bool, refl, ap, sym, subst, ◌∙◌, arith, length, take, drop, get_or, inl, inr}
 use Rattle.std.proofs.lemmas.List.{take_more, take-take, take-append-drop}
 use Rattle.std.proofs.lemmas.Bool.{cases_order}
 use Rattle.lv_exprs.specs.declared.symbol.Symbol.{Symbol}
 use Rattle.lv_exprs.specs.declared.symbol.Symbol.TheVariants as t
-use Rattle.lv_exprs.specs.Forms.{Form, text, rank, is_free, Valid, IsExpr, Begins}
+use Rattle.lv_exprs.specs.Forms.{Form, text, Begins}
 use Rattle.lv_exprs.specs.Heights.{height}
 use Rattle.lv_exprs.specs.Lows.{base}
-use Rattle.lv_exprs.specs.Machine.{Open, State, want, have, casts, shut, dotted, alone, settle, Outcome, done, stop, finish, step, read, start, run, then_run, told, Sound}
+use Rattle.lv_exprs.specs.Machine.{State, have, alone, settle, done, finish, step, start, run, then_run, told, Sound}
 use Rattle.lv_exprs.specs.Reading.{Reads, Fails, IsTooHigh}
 use Rattle.lv_exprs.proofs.Unique.{found}
 use Rattle.lv_exprs.proofs.Kept.{Spells, Kept, settled}

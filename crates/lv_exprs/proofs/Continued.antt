@@ -1,11 +1,10 @@
-use Rattle.std.proofs.Common.{◌≡◌, ℕ, List, [], ◌∷◌, ◌++◌, Option, Some, None, Bool, true, false, cond, nat_lt, not, refl, ap, sym, subst, ◌∙◌}
-use Rattle.lv_exprs.specs.declared.symbol.Sign.{Sign}
+use Rattle.std.proofs.Common.{◌≡◌, [], ◌∷◌, Some, None, Bool, true, false, nat_lt, not, refl, ap, ◌∙◌}
 use Rattle.lv_exprs.specs.declared.symbol.Divider.TheVariants as d
 use Rattle.lv_exprs.specs.declared.symbol.Symbol.{Symbol}
 use Rattle.lv_exprs.specs.declared.symbol.Symbol.TheVariants as t
 use Rattle.lv_exprs.specs.Levels.{level}
-use Rattle.lv_exprs.specs.Forms.{Form, text, IsExpr, Begins}
-use Rattle.lv_exprs.specs.Machine.{Open, State, want, have, casts, shut, dotted, alone, settle, pull, have_shift, shift, Outcome, done, stop, finish, step, start, run}
+use Rattle.lv_exprs.specs.Forms.{Form, text}
+use Rattle.lv_exprs.specs.Machine.{State, want, have, casts, shut, dotted, alone, settle, pull, have_shift, shift, done, stop, finish, step, start, run}
 use Rattle.lv_exprs.specs.Laws.{goes_on, NothingGoesOn, HasOneForm}
 use Rattle.lv_exprs.proofs.Unique.{found, one_form}
 use Rattle.lv_exprs.proofs.Ends.{whole_run, dead}

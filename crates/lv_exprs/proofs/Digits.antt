@@ -1,5 +1,5 @@
 -- Digits in 128 bits.
-use Rattle.std.proofs.Common.{◌≡◌, ℕ, suc, arith, ◌+◌, ◌*◌, ◌%◌, ◌^◌, ◌<◌, Bool, true, false, if◌then◌else◌, List, [], ◌∷◌, drop, length, get_or, refl, ap, sym, ◌∙◌, subst, drop-cons}
+use Rattle.std.proofs.Common.{◌≡◌, ℕ, suc, arith, ◌+◌, ◌*◌, ◌%◌, ◌^◌, ◌<◌, Bool, true, false, if◌then◌else◌, List, [], ◌∷◌, drop, length, get_or, refl, ap, sym, ◌∙◌, drop-cons}
 use Rattle.std.proofs.lemmas.Nat.{mul-mod_first}
 use Rattle.std.proofs.Math.Nat.{mod-add-mod, mod-mod}
 use Rattle.lv_exprs.specs.Literals.{is_passed, digit_bits, digits_number, is_free_digit, leads_free}

@@ -1,11 +1,11 @@
 -- What a run says of the expressions that begin with its tokens.
-use Rattle.std.proofs.Common.{◌≡◌, ℕ, ◌+◌, ◌≤◌, ◌<◌, List, [], ◌∷◌, ◌++◌, Option, Some, None, Bool, true, false, cond, nat_lt, refl, ap, sym, subst, ◌∙◌, arith, append_assoc, append-nil, IfSome, ◌⊎◌, inl, inr}
+use Rattle.std.proofs.Common.{◌≡◌, ◌≤◌, List, [], ◌∷◌, ◌++◌, Option, Some, None, Bool, refl, ap, sym, subst, ◌∙◌, arith, append_assoc, append-nil, IfSome, inl, inr}
 use Rattle.lv_exprs.specs.declared.symbol.Name.{Name}
 use Rattle.lv_exprs.specs.declared.symbol.Divider.TheVariants as d
 use Rattle.lv_exprs.specs.declared.symbol.Symbol.{Symbol}
 use Rattle.lv_exprs.specs.declared.symbol.Symbol.TheVariants as t
-use Rattle.lv_exprs.specs.Forms.{Form, plain, based, sized, name, dot, bit, part, prefix, binary, choice, paren, cast, pair, brace, repeat, text, rank, is_free, Valid, IsExpr, Begins}
-use Rattle.lv_exprs.specs.Machine.{Open, o_prefix, o_left, o_question, o_colon, o_paren, o_cast, o_brace, o_braces, o_repeat, o_repeats, o_index, o_part, State, want, have, casts, shut, dotted, alone, asks, settle, pull, shift, Outcome, done, stop, finish, step, turn, read, texts, told, Nested, Sound, start, run, then_run}
+use Rattle.lv_exprs.specs.Forms.{Form, name, dot, bit, part, prefix, binary, choice, paren, cast, pair, brace, repeat, text, rank, Valid, Begins}
+use Rattle.lv_exprs.specs.Machine.{Open, o_prefix, o_left, o_question, o_colon, o_paren, o_cast, o_brace, o_braces, o_repeat, o_repeats, o_index, o_part, State, want, have, casts, shut, dotted, alone, asks, settle, Outcome, done, stop, finish, step, read, texts, Nested, start, run, then_run}
 use Rattle.lv_exprs.proofs.Unique.{found, asks_le}
 use Rattle.lv_exprs.proofs.Kept.{Spells, stepped}
 
@@ -84,6 +84,7 @@ alive p ts s e = of_spells s (of_some (λ z. Spells p ts z) (run p start ts) s e
   where
     begins : Whole p ts → Begins p ts
     begins w = (w.more, w.form, inl w.valid, w.whole)
+
     of_spells : (s : State) → Spells p ts s → Begins p ts
     of_spells (want s) h = begins (widen p _ _ (t.Name x0 ∷ []) (ended p s (name x0) h.sound tt (omega (arith, asks_le s)) (omega arith)) (rw h.spells refl))
     of_spells (have s x) h = begins (widen p _ _ [] (ended p s x h.sound.0 h.sound.1 h.sound.2 (omega (arith, h.fresh))) (h.spells ∙ sym (append-nil ts)))

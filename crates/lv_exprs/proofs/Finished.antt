@@ -7,8 +7,8 @@ use Rattle.lv_exprs.specs.declared.error.SyntaxError.{SyntaxError}
 use Rattle.lv_exprs.specs.declared.error.SyntaxError.TheVariants as error
 use Rattle.lv_ast.specs.declared.tokens.Token.{Token}
 use Rattle.lv_exprs.specs.Symbols.{symbol, symbols}
-use Rattle.lv_exprs.specs.Reading.{ReadsTree, Fails, IsTooHigh}
-use Rattle.lv_exprs.specs.Answers.{ReadsLow, ReadsHigh, IsDeep, Refuses, IsRead, IsRefused}
+use Rattle.lv_exprs.specs.Reading.{ReadsTree, Fails}
+use Rattle.lv_exprs.specs.Answers.{ReadsLow, IsDeep, Refuses, IsRead, IsRefused}
 
 pub limit_le : (p : Bool) → cond p 201 200 ≤ 201
 limit_le true = omega arith

@@ -1,11 +1,9 @@
 -- Each token does in the code what it does in the machine.
-use Rattle.std.proofs.Common.{◌≡◌, ℕ, ◌+◌, ◌≤◌, ◌<◌, List, [], ◌∷◌, ◌++◌, Option, Some, None, Bool, true, false, cond, nat_lt, max, refl, ap, sym, subst, ◌∙◌, arith, ◌&&◌, ◌⊎◌, inl, inr}
-use Rattle.std.proofs.lemmas.Bool.{lt-ltb, le-ltb, ltb-true, ltb-false}
+use Rattle.std.proofs.Common.{◌≡◌, ℕ, ◌+◌, ◌≤◌, List, [], ◌∷◌, ◌++◌, Option, Some, None, Bool, true, false, cond, nat_lt, max, refl, ap, sym, subst, ◌∙◌, arith, ◌&&◌}
 use Rattle.lv_ast.specs.declared.expr.Select.{Select}
 use Rattle.lv_ast.specs.declared.expr.Select.TheVariants as sel
 use Rattle.lv_ast.specs.declared.expr.Path.{Path}
 use Rattle.lv_ast.specs.declared.expr.Literal.{Literal}
-use Rattle.lv_ast.specs.declared.expr.Expr.{Expr}
 use Rattle.lv_ast.specs.declared.expr.Expr.TheVariants as e
 use Rattle.lv_exprs.specs.declared.symbol.Sign.{Sign}
 use Rattle.lv_exprs.specs.declared.symbol.Based.{Based}
@@ -18,11 +16,11 @@ use Rattle.lv_exprs.specs.declared.operand.Frame.{Frame}
 use Rattle.lv_exprs.specs.declared.operand.Frame.TheVariants as fr
 use Rattle.lv_exprs.specs.declared.operand.Standing.{Standing}
 use Rattle.lv_exprs.specs.declared.operand.Standing.TheVariants as st
-use Rattle.lv_exprs.specs.Levels.{level, leads, weight}
-use Rattle.lv_exprs.specs.Forms.{Form, plain, based, sized, name, dot, bit, part, prefix, binary, choice, paren, cast, pair, brace, repeat, rank, is_path, is_plain, is_step, is_free, Valid}
+use Rattle.lv_exprs.specs.Levels.{level, leads}
+use Rattle.lv_exprs.specs.Forms.{Form, plain, based, sized, name, dot, bit, part, binary, rank, is_path, is_plain, is_free}
 use Rattle.lv_exprs.specs.Heights.{height}
 use Rattle.lv_exprs.specs.Trees.{made, tree, trees, path, index_of, steps_behind, part_select, based_literal, sized_literal}
-use Rattle.lv_exprs.specs.Machine.{Open, o_prefix, o_left, o_question, o_colon, o_paren, o_cast, o_brace, o_braces, o_repeat, o_repeats, o_index, o_part, State, want, have, casts, shut, dotted, alone, reduce, settle, pull, put_alone, want_shift, put_based, have_shift, shift, step, Sound}
+use Rattle.lv_exprs.specs.Machine.{Open, o_prefix, o_paren, o_index, State, want, have, casts, shut, dotted, alone, reduce, settle, put_alone, want_shift, put_based, have_shift, shift, step, Sound}
 use Rattle.lv_exprs.specs.Steps as z
 use Rattle.lv_exprs.specs.Steps.{tree_of, operand, whole_operand, lower, Next, on, whole, ended, bad, is_none, indexed, closing, closes, next, nodes}
 use Rattle.lv_exprs.specs.Stands.{open_weight, depth, show, shown, content, placed, at, seen}

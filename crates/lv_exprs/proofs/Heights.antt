@@ -1,14 +1,14 @@
 -- Reading only ever raises what the tree's height is at least.
-use Rattle.std.proofs.Common.{◌≡◌, ℕ, ◌+◌, ◌≤◌, ◌<◌, List, [], ◌∷◌, ◌++◌, Option, Some, None, Bool, true, false, cond, nat_lt, refl, ap, sym, subst, ◌∙◌, arith, IfSome, max, ◌&&◌}
+use Rattle.std.proofs.Common.{◌≡◌, ℕ, ◌+◌, ◌≤◌, List, [], ◌∷◌, ◌++◌, Option, Some, None, Bool, true, false, cond, nat_lt, refl, ap, sym, ◌∙◌, arith, IfSome, max, ◌&&◌}
 use Rattle.lv_exprs.specs.declared.symbol.Based.{Based}
 use Rattle.lv_exprs.specs.declared.symbol.Divider.{Divider}
 use Rattle.lv_exprs.specs.declared.symbol.Divider.TheVariants as d
 use Rattle.lv_exprs.specs.declared.symbol.Symbol.{Symbol}
 use Rattle.lv_exprs.specs.declared.symbol.Symbol.TheVariants as t
 use Rattle.lv_exprs.specs.Levels.{level, leads, weight}
-use Rattle.lv_exprs.specs.Forms.{Form, plain, based, sized, name, dot, bit, part, prefix, binary, choice, paren, cast, pair, brace, repeat, text, rank, is_path, is_plain, is_step, is_free, IsExpr}
+use Rattle.lv_exprs.specs.Forms.{Form, plain, based, sized, name, dot, bit, part, prefix, binary, choice, paren, pair, text, rank, is_path, is_step, is_free, IsExpr}
 use Rattle.lv_exprs.specs.Heights.{height}
-use Rattle.lv_exprs.specs.Machine.{Open, o_prefix, o_left, o_question, o_colon, o_paren, o_cast, o_brace, o_braces, o_repeat, o_repeats, o_index, o_part, State, want, have, casts, shut, dotted, alone, stops, close, reduce, settle, pull, put_alone, put_literal, want_shift, put_comma, put_divider, put_right_paren, put_right_brace, put_right_bracket, put_left_brace, put_based, have_shift, shift, Outcome, done, stop, finish, step, read, start, run}
+use Rattle.lv_exprs.specs.Machine.{Open, o_prefix, o_left, o_question, o_colon, o_paren, o_cast, o_brace, o_braces, o_repeat, o_repeats, o_index, o_part, State, want, have, casts, shut, dotted, alone, reduce, settle, pull, put_alone, want_shift, put_comma, put_divider, put_right_paren, put_right_brace, put_right_bracket, put_left_brace, put_based, have_shift, shift, Outcome, done, stop, finish, step, read, start, run}
 use Rattle.lv_exprs.specs.Lows.{over, over_all, low, index_base, number_base, bit_base, base}
 use Rattle.lv_exprs.proofs.Unique.{found}
 use Rattle.lv_exprs.proofs.Ends.{of_some, carried}

@@ -1,6 +1,6 @@
 -- A state spells what was read.
-use Rattle.std.proofs.Common.{◌≡◌, ℕ, ◌+◌, ◌≤◌, ◌<◌, List, [], ◌∷◌, ◌++◌, Option, Some, None, Bool, true, false, cond, nat_lt, refl, ap, sym, subst, ◌∙◌, arith, append_assoc, append-nil, IfSome, ◌&&◌, ◌⊎◌}
-use Rattle.std.proofs.lemmas.Bool.{lt-ltb, le-ltb, ltb-true, ltb-false}
+use Rattle.std.proofs.Common.{◌≡◌, ℕ, ◌≤◌, List, [], ◌∷◌, ◌++◌, Some, None, Bool, true, false, cond, nat_lt, refl, ap, sym, subst, ◌∙◌, arith, append_assoc, IfSome, ◌&&◌}
+use Rattle.std.proofs.lemmas.Bool.{ltb-true, ltb-false}
 use Rattle.lv_exprs.specs.declared.symbol.Sign.{Sign}
 use Rattle.lv_exprs.specs.declared.symbol.Divider.{Divider}
 use Rattle.lv_exprs.specs.declared.symbol.Divider.TheVariants as d
@@ -8,8 +8,8 @@ use Rattle.lv_exprs.specs.declared.symbol.Symbol.{Symbol}
 use Rattle.lv_exprs.specs.declared.symbol.Symbol.TheVariants as t
 use Rattle.lv_exprs.specs.declared.symbol.Based.{Based}
 use Rattle.lv_exprs.specs.Levels.{level, leads}
-use Rattle.lv_exprs.specs.Forms.{Form, plain, based, sized, name, dot, bit, part, prefix, binary, choice, paren, cast, pair, brace, repeat, text, rank, is_step, is_free, Valid}
-use Rattle.lv_exprs.specs.Machine.{Open, o_prefix, o_left, o_question, o_colon, o_paren, o_cast, o_brace, o_braces, o_repeat, o_repeats, o_index, o_part, State, want, have, casts, shut, dotted, alone, asks, stops, close, reduce, settle, pull, put_alone, put_literal, want_shift, put_comma, put_divider, put_right_paren, put_right_brace, put_right_bracket, put_left_brace, put_based, have_shift, shift, step, before, texts, told, Fits, Nested, Sound}
+use Rattle.lv_exprs.specs.Forms.{Form, plain, based, sized, prefix, binary, choice, text, rank, is_step, is_free, Valid}
+use Rattle.lv_exprs.specs.Machine.{Open, o_prefix, o_left, o_question, o_colon, o_paren, o_cast, o_brace, o_braces, o_repeat, o_repeats, o_index, o_part, State, want, have, casts, shut, dotted, alone, asks, stops, reduce, settle, pull, put_alone, want_shift, put_comma, put_divider, put_right_paren, put_right_brace, put_right_bracket, put_left_brace, put_based, have_shift, shift, step, before, texts, told, Nested, Sound}
 use Rattle.lv_exprs.proofs.Unique.{level_le, asks_le}
 
 -- the top stops a token of that pull

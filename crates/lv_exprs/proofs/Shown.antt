@@ -1,14 +1,12 @@
 -- What the code does on trees shows what the machine does on forms.
-use Rattle.std.proofs.Common.{◌≡◌, ℕ, ◌+◌, ◌≤◌, ◌<◌, List, [], ◌∷◌, ◌++◌, Option, Some, None, Bool, true, false, cond, nat_lt, max, refl, ap, sym, subst, ◌∙◌, arith, ◌&&◌}
-use Rattle.std.proofs.lemmas.Bool.{lt-ltb, le-ltb, ltb-true, ltb-false}
+use Rattle.std.proofs.Common.{◌≡◌, ℕ, ◌+◌, ◌≤◌, List, [], ◌∷◌, ◌++◌, Option, Some, None, Bool, true, false, cond, nat_lt, max, refl, ap, sym, subst, ◌∙◌, arith}
+use Rattle.std.proofs.lemmas.Bool.{ltb-true}
 use Rattle.lv_ast.specs.declared.expr.Select.{Select}
 use Rattle.lv_ast.specs.declared.expr.Select.TheVariants as s
 use Rattle.lv_ast.specs.declared.expr.Path.{Path}
 use Rattle.lv_ast.specs.declared.expr.Literal.{Literal}
 use Rattle.lv_ast.specs.declared.expr.Expr.{Expr}
 use Rattle.lv_ast.specs.declared.expr.Expr.TheVariants as e
-use Rattle.lv_exprs.specs.declared.symbol.Sign.{Sign}
-use Rattle.lv_exprs.specs.declared.symbol.Based.{Based}
 use Rattle.lv_exprs.specs.declared.symbol.Divider.TheVariants as d
 use Rattle.lv_exprs.specs.declared.symbol.Symbol.{Symbol}
 use Rattle.lv_exprs.specs.declared.symbol.Symbol.TheVariants as t
@@ -19,15 +17,13 @@ use Rattle.lv_exprs.specs.declared.operand.Frame.{Frame}
 use Rattle.lv_exprs.specs.declared.operand.Frame.TheVariants as fr
 use Rattle.lv_exprs.specs.declared.operand.Standing.{Standing}
 use Rattle.lv_exprs.specs.declared.operand.Standing.TheVariants as st
-use Rattle.lv_exprs.specs.Levels.{level, leads, weight}
-use Rattle.lv_exprs.specs.Forms.{Form, plain, based, sized, name, dot, bit, part, prefix, binary, choice, paren, cast, pair, brace, repeat, rank, is_path, is_plain, is_step, is_free, Valid}
+use Rattle.lv_exprs.specs.Levels.{level, weight}
+use Rattle.lv_exprs.specs.Forms.{Form, plain, bit, prefix, binary, choice, pair, rank}
 use Rattle.lv_exprs.specs.Heights.{height}
-use Rattle.lv_exprs.specs.Trees.{made, tree, trees, path, index_of, steps_behind, part_select, plain_literal, based_literal, sized_literal, unary, infix_tree, first}
-use Rattle.lv_exprs.specs.Machine.{Open, o_prefix, o_left, o_question, o_colon, o_paren, o_cast, o_brace, o_braces, o_repeat, o_repeats, o_index, o_part, State, want, have, casts, shut, dotted, alone, reduce, settle, pull, put_alone, put_literal, want_shift, put_comma, put_divider, put_right_paren, put_right_brace, put_right_bracket, put_left_brace, put_based, have_shift, shift, step, Nested, Sound}
-use Rattle.lv_exprs.specs.Steps as z
-use Rattle.lv_exprs.specs.Steps.{tree_of, operand, whole_operand, stops, close, lower, Next, on, whole, ended, bad, is_none, indexed, closing, closes, next, nodes, frame_weight}
-use Rattle.lv_exprs.specs.Stands.{open_weight, depth, show, shown, content, placed, both, at, seen}
-use Rattle.lv_exprs.proofs.Unique.{stays_tight}
+use Rattle.lv_exprs.specs.Trees.{made, tree, trees, path, part_select, unary, infix_tree}
+use Rattle.lv_exprs.specs.Machine.{Open, o_prefix, o_left, o_question, o_colon, o_paren, o_cast, o_brace, o_braces, o_repeat, o_repeats, o_index, o_part, State, have, alone, reduce, put_comma, put_divider, put_right_paren, put_right_brace, put_right_bracket, put_left_brace, Nested, Sound}
+use Rattle.lv_exprs.specs.Steps.{tree_of, operand, whole_operand, lower, Next, on, whole, ended, bad, is_none, indexed, closing, closes}
+use Rattle.lv_exprs.specs.Stands.{depth, shown, content, placed, both, at, seen}
 use Rattle.lv_exprs.proofs.Kept.{Kept, Loose, Tight, settled}
 
 pub two : {A B : Type 0} (f : A → ℕ → B) {v w : A} {a b : ℕ} → v ≡ w → a ≡ b → f v a ≡ f w b
@@ -190,6 +186,7 @@ closers text (t_empty x) h k = empty k
     none (t.Divider d.Colon) = refl
     none (t.Divider _) = refl
     none _ = refl
+
     empty : (k : Symbol) → Follows text (shut_shift [] x k) (have [] x) (ended (placed text [] x))
     empty k = subst (λ (v : Option State). Follows text v (have [] x) (ended (placed text [] x))) (sym (none k)) (x, refl, sym (content_tree text x), omega arith)
 closers text (t_question a s x) h (t.Divider d.Colon) =

@@ -1,8 +1,7 @@
 -- From where the reader stands to what its answers say.
-use Rattle.std.proofs.Common.{◌≡◌, ℕ, ◌+◌, ◌≤◌, ◌<◌, List, [], ◌∷◌, ◌++◌, max, cond, IfSome, Option, Some, None, Bool, true, false, refl, ap, sym, subst, ◌∙◌, arith, length, take, drop, get_or}
+use Rattle.std.proofs.Common.{◌≡◌, ℕ, ◌+◌, ◌<◌, List, [], ◌∷◌, max, cond, Option, Some, None, Bool, true, false, refl, ap, sym, subst, ◌∙◌, arith, length, take, get_or}
 use Rattle.std.proofs.lemmas.List.{take_more}
 use Rattle.lv_ast.specs.declared.expr.Literal.{Literal}
-use Rattle.lv_ast.specs.declared.expr.Expr.{Expr}
 use Rattle.lv_ast.specs.declared.expr.Expr.TheVariants as tr
 use Rattle.lv_exprs.specs.declared.symbol.Symbol.{Symbol}
 use Rattle.lv_exprs.specs.declared.symbol.Symbol.TheVariants as t
@@ -10,20 +9,19 @@ use Rattle.lv_exprs.specs.declared.operand.Operand.{Operand}
 use Rattle.lv_exprs.specs.declared.operand.Frame.{Frame}
 use Rattle.lv_exprs.specs.declared.operand.Standing.{Standing}
 use Rattle.lv_exprs.specs.declared.operand.Standing.TheVariants as st
-use Rattle.lv_exprs.specs.Levels.{weight}
-use Rattle.lv_exprs.specs.Forms.{Form, plain, based, sized, name, dot, bit, part, is_free}
+use Rattle.lv_exprs.specs.Forms.{Form, based, sized, is_free}
 use Rattle.lv_exprs.specs.Heights.{height}
 use Rattle.lv_exprs.specs.Trees.{tree}
 use Rattle.lv_exprs.specs.Lows.{over, over_all, low, base}
-use Rattle.lv_exprs.specs.Machine.{Open, o_prefix, o_left, o_question, o_colon, o_paren, o_cast, o_brace, o_braces, o_repeat, o_repeats, o_index, o_part, State, want, have, casts, shut, dotted, alone, reduce, settle, Outcome, done, stop, finish, step, run, start, Sound, told}
+use Rattle.lv_exprs.specs.Machine.{Open, o_prefix, o_paren, State, want, have, casts, shut, dotted, alone, reduce, settle, done, finish, step, run, start}
 use Rattle.lv_exprs.specs.Steps as z
 use Rattle.lv_exprs.specs.Steps.{tree_of, operand, nodes, marks, mark, reached, lower, ending, Next, on, whole, ended, bad, next}
-use Rattle.lv_exprs.specs.Stands.{Stands, open_weight, depth, show, shown, content, placed, at, seen}
-use Rattle.lv_exprs.specs.Reading.{Reads, Fails, IsTooHigh, ReadsTree}
+use Rattle.lv_exprs.specs.Stands.{Stands, open_weight, depth, show, shown, placed, at, seen}
+use Rattle.lv_exprs.specs.Reading.{Fails, IsTooHigh, ReadsTree}
 use Rattle.lv_exprs.proofs.Kept.{Spells}
 use Rattle.lv_exprs.proofs.Heights.{base_near, base_same}
 use Rattle.lv_exprs.proofs.Answers.{spelled_by, reads, reads_alone, fails, too_high, run_more}
-use Rattle.lv_exprs.proofs.Shown.{content_tree, Seen, lowered, Follows, IsWhole, same_both}
+use Rattle.lv_exprs.proofs.Shown.{content_tree, Seen, lowered, Follows, same_both}
 use Rattle.lv_exprs.proofs.Followed.{follows, nodes_shown}
 
 pub begin : (text : List ℕ) (p : Bool) (ts : List Symbol) → Stands text p ts 0 [] st.Want
@@ -124,6 +122,7 @@ not_want text (have s v) fs x h e y f = left (reduce 1 s v) (lower 1 (shown text
   where
     end_of : (at (shown text s) (st.Have (placed text s v))) ≡ at fs x → ending fs x ≡ None → z.alone (lower 1 (shown text s) (placed text s v)) ≡ None
     end_of h e = ap (λ (u : List Frame × Standing). ending u.0 u.1) (same_both (shown text s) fs (st.Have (placed text s v)) x h) ∙ e
+
     left : (m : State) (l : List Frame × Operand) → Seen text m l → z.alone l ≡ None → m ≡ have [] y → ⊥
     left m ([], o) k w g = none_some (sym w)
     left m (g ∷ gs, o) k w u = let q : Seen text (have [] y) (g ∷ gs, o) = subst (λ (m' : State). Seen text m' (g ∷ gs, o)) u k in let r : [] ≡ g ∷ gs = q.0 in cc

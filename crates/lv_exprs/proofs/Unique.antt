@@ -1,5 +1,5 @@
 -- Each form's text is read to that form.
-use Rattle.std.proofs.Common.{◌≡◌, ℕ, ◌+◌, ◌≤◌, ◌<◌, List, [], ◌∷◌, ◌++◌, Option, Some, None, Bool, true, false, cond, nat_lt, max, refl, ap, sym, ◌∙◌, arith, append_assoc, append-nil, ◌&&◌, ◌⊎◌, inl, inr}
+use Rattle.std.proofs.Common.{◌≡◌, ℕ, ◌≤◌, ◌<◌, List, [], ◌∷◌, ◌++◌, Some, None, Bool, true, false, cond, max, refl, ap, sym, ◌∙◌, arith, append_assoc, append-nil, inl, inr}
 use Rattle.std.proofs.lemmas.Bool.{lt-ltb, le-ltb}
 use Rattle.lv_exprs.specs.declared.symbol.Sign.{Sign}
 use Rattle.lv_exprs.specs.declared.symbol.Sign.TheVariants as g
@@ -7,8 +7,8 @@ use Rattle.lv_exprs.specs.declared.symbol.Divider.TheVariants as d
 use Rattle.lv_exprs.specs.declared.symbol.Symbol.{Symbol}
 use Rattle.lv_exprs.specs.declared.symbol.Symbol.TheVariants as t
 use Rattle.lv_exprs.specs.Levels.{level, leads}
-use Rattle.lv_exprs.specs.Forms.{Form, plain, based, sized, name, dot, bit, part, prefix, binary, choice, paren, cast, pair, brace, repeat, text, rank, is_path, is_plain, is_step, is_free, Valid, IsExpr}
-use Rattle.lv_exprs.specs.Machine.{Open, o_prefix, o_left, o_question, o_colon, o_paren, o_cast, o_brace, o_braces, o_repeat, o_repeats, o_index, o_part, State, want, have, casts, shut, dotted, alone, asks, stops, close, reduce, settle, pull, pulls, put_literal, have_shift, shift, Outcome, done, stop, finish, step, turn, read, start}
+use Rattle.lv_exprs.specs.Forms.{Form, plain, based, sized, name, dot, bit, part, prefix, binary, choice, paren, cast, pair, brace, repeat, text, rank, is_step, is_free, Valid, IsExpr}
+use Rattle.lv_exprs.specs.Machine.{Open, o_prefix, o_left, o_question, o_colon, o_paren, o_cast, o_brace, o_braces, o_repeat, o_repeats, o_index, o_part, State, want, have, dotted, alone, asks, stops, close, reduce, pull, pulls, put_literal, have_shift, Outcome, done, stop, finish, turn, read, start}
 
 closed_frame : (g : Open) (s : List Open) (x : Form) (q : ℕ) → stops q g ≡ false → reduce q (g ∷ s) x ≡ reduce q s (close g x)
 closed_frame g s x q e = rw e refl

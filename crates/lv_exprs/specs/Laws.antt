@@ -1,5 +1,5 @@
 -- Laws of the grammar of expressions.
-use Rattle.std.specs.Prelude.{◌≡◌, nat_lt, List, [], ◌∷◌, ◌++◌, Bool, true, false, not}
+use Rattle.std.specs.Prelude.{◌≡◌, nat_lt, [], ◌∷◌, ◌++◌, Bool, true, false, not}
 use Rattle.lv_exprs.specs.declared.symbol.Symbol.{Symbol}
 use Rattle.lv_exprs.specs.declared.symbol.Symbol.TheVariants as t
 use Rattle.lv_exprs.specs.Levels.{level}

@@ -1,5 +1,5 @@
 -- The numbers that the bytes of a token give (IEEE 1364-2005, section 3.5). Lexing keeps them below 2 ^ 128.
-use Rattle.std.specs.Prelude.{ℕ, ◌+◌, ◌-◌, ◌*◌, ◌%◌, ◌^◌, Bool, true, false, ◌&&◌, ◌||◌, if◌then◌else◌, ◌==◌, nat_le, List, [], ◌∷◌}
+use Rattle.std.specs.Prelude.{ℕ, ◌+◌, ◌-◌, ◌*◌, ◌%◌, ◌^◌, Bool, true, false, ◌||◌, if◌then◌else◌, ◌==◌, nat_le, List, [], ◌∷◌}
 use Rattle.lv_exprs.specs.declared.symbol.Number.{Number}
 use Rattle.lv_exprs.specs.declared.symbol.Based.{Based}
 

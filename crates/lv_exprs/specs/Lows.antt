@@ -1,7 +1,7 @@
 -- How high an expression is at least that begins with what a state has read: the proofs' means.
-use Rattle.std.specs.Prelude.{ℕ, ◌+◌, max, List, [], ◌∷◌, Bool, true, false, ◌&&◌, cond}
+use Rattle.std.specs.Prelude.{ℕ, ◌+◌, max, List, [], ◌∷◌, Bool, ◌&&◌, cond}
 use Rattle.lv_exprs.specs.Levels.{weight}
-use Rattle.lv_exprs.specs.Forms.{Form, plain, based, sized, name, dot, bit, part, prefix, binary, choice, paren, cast, pair, brace, repeat, is_path}
+use Rattle.lv_exprs.specs.Forms.{Form, plain, bit, is_path}
 use Rattle.lv_exprs.specs.Heights.{height}
 use Rattle.lv_exprs.specs.Machine.{Open, o_prefix, o_left, o_question, o_colon, o_paren, o_cast, o_brace, o_braces, o_repeat, o_repeats, o_index, o_part, State, want, have, casts, shut, dotted, alone}
 

@@ -1,5 +1,5 @@
 -- A machine that reads an expression token by token, with what is open on a stack: the proofs' means, and no part of the promise.
-use Rattle.std.specs.Prelude.{◌≡◌, ℕ, ◌+◌, ◌≤◌, nat_lt, List, [], ◌∷◌, ◌++◌, Option, Some, None, Bool, true, false, ◌&&◌, cond}
+use Rattle.std.specs.Prelude.{◌≡◌, ℕ, ◌+◌, ◌≤◌, nat_lt, List, [], ◌∷◌, ◌++◌, Option, Some, None, Bool, true, ◌&&◌, cond}
 use Rattle.lv_exprs.specs.declared.symbol.Sign.{Sign}
 use Rattle.lv_exprs.specs.declared.symbol.Divider.{Divider}
 use Rattle.lv_exprs.specs.declared.symbol.Divider.TheVariants as d

@@ -9,7 +9,7 @@ use Rattle.lv_exprs.specs.declared.operand.Frame.TheVariants as fr
 use Rattle.lv_exprs.specs.declared.operand.Standing.{Standing}
 use Rattle.lv_exprs.specs.declared.operand.Standing.TheVariants as st
 use Rattle.lv_exprs.specs.Levels.{weight}
-use Rattle.lv_exprs.specs.Forms.{Form, plain, based, sized, name, dot, bit, part, prefix, binary, choice, paren, cast, pair, brace, repeat}
+use Rattle.lv_exprs.specs.Forms.{Form, plain, name, dot, bit, part}
 use Rattle.lv_exprs.specs.Heights.{height}
 use Rattle.lv_exprs.specs.Trees.{made, tree, trees, path, index_of, steps_behind, part_select}
 use Rattle.lv_exprs.specs.Machine.{Open, o_prefix, o_left, o_question, o_colon, o_paren, o_cast, o_brace, o_braces, o_repeat, o_repeats, o_index, o_part, State, want, have, casts, shut, dotted, alone, run, start}

@@ -1,5 +1,5 @@
 -- The machine as the code runs it: on trees, with numbers that say how far below the root they reach.
-use Rattle.std.specs.Prelude.{ℕ, List, [], ◌∷◌, ◌++◌, Option, Some, None, Bool, true, false, ◌&&◌, cond, nat_lt, ◌+◌, ◌≤◌, max}
+use Rattle.std.specs.Prelude.{ℕ, List, [], ◌∷◌, ◌++◌, Option, Some, None, Bool, true, false, cond, nat_lt, ◌+◌, ◌≤◌, max}
 use Rattle.lv_ast.specs.declared.expr.Literal.{Literal}
 use Rattle.lv_ast.specs.declared.expr.Path.{Path}
 use Rattle.lv_ast.specs.declared.expr.PathStep.{PathStep}
@@ -9,7 +9,6 @@ use Rattle.lv_ast.specs.declared.expr.Expr.{Expr}
 use Rattle.lv_ast.specs.declared.expr.Expr.TheVariants as e
 use Rattle.lv_exprs.specs.declared.symbol.Divider.{Divider}
 use Rattle.lv_exprs.specs.declared.symbol.Divider.TheVariants as d
-use Rattle.lv_exprs.specs.declared.symbol.Number.{Number}
 use Rattle.lv_exprs.specs.declared.symbol.Based.{Based}
 use Rattle.lv_exprs.specs.declared.symbol.Symbol.{Symbol}
 use Rattle.lv_exprs.specs.declared.symbol.Symbol.TheVariants as t

@@ -1,5 +1,5 @@
 -- What a token is to an expression, by its kind and bytes (IEEE 1364-2005, section 3).
-use Rattle.std.specs.Prelude.{ℕ, ◌+◌, ◌-◌, ◌^◌, min, Bool, true, false, ◌&&◌, if◌then◌else◌, ◌==◌, List, [], ◌∷◌, map, slice_range, bytes_eq, codes}
+use Rattle.std.specs.Prelude.{ℕ, ◌+◌, ◌-◌, ◌^◌, min, true, false, ◌&&◌, if◌then◌else◌, ◌==◌, List, [], ◌∷◌, map, slice_range, bytes_eq, codes}
 use Rattle.lv_ast.specs.declared.tokens.Kind.{Kind}
 use Rattle.lv_ast.specs.declared.tokens.Kind.TheVariants as k
 use Rattle.lv_ast.specs.declared.tokens.Token.{Token}

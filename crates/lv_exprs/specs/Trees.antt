@@ -1,5 +1,5 @@
 -- The tree of a form. A text gives the names their bytes.
-use Rattle.std.specs.Prelude.{ℕ, List, [], ◌∷◌, ◌++◌, Bool, true, false, Option, Some, None, slice_range}
+use Rattle.std.specs.Prelude.{ℕ, List, [], ◌∷◌, ◌++◌, true, false, Option, Some, None, slice_range}
 use Rattle.lv_bits.specs.declared.op.Op.{Op}
 use Rattle.lv_bits.specs.declared.op.Op.TheVariants as o
 use Rattle.lv_ast.specs.declared.expr.Literal.{Literal}

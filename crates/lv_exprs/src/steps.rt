@@ -46,13 +46,7 @@ fn close_left(
     Ok(whole_operand(tree, low.max(reach)))
 }
 
-fn close_colon(
-    alloc: Global,
-    c: Expr,
-    y: Expr,
-    low: u32,
-    x: Operand,
-) -> Result<Operand, NoMemory>
+fn close_colon(alloc: Global, c: Expr, y: Expr, low: u32, x: Operand) -> Result<Operand, NoMemory>
     ensures { IfOk result (λ r. r ≡ step.close (Frame.Colon c y low) x) }
 {
     let Operand { content, reach } = x;
@@ -139,12 +133,7 @@ fn end_question(
     }
 }
 
-fn end_paren(
-    alloc: Global,
-    stack: &Stack,
-    x: Operand,
-    symbol: Symbol,
-) -> Result<Step, NoMemory>
+fn end_paren(alloc: Global, stack: &Stack, x: Operand, symbol: Symbol) -> Result<Step, NoMemory>
     ensures { IfOk result (λ r. step.seen_step r stack.now.frames.items ≡ step.close_paren symbol stack.now.frames.items x) }
 {
     match symbol {
@@ -178,11 +167,7 @@ fn end_cast(
 }
 
 /// One more expression in a list.
-fn listed(
-    alloc: Global,
-    mut list: Items<Expr>,
-    content: Content,
-) -> Result<Items<Expr>, NoMemory>
+fn listed(alloc: Global, mut list: Items<Expr>, content: Content) -> Result<Items<Expr>, NoMemory>
     ensures { IfOk result (λ r. r ≡ list ++ (step.tree_of content ∷ [])) }
 {
     let tree = into_tree(alloc, content)?;
@@ -232,10 +217,7 @@ fn end_brace(
         Symbol::RightBrace => {
             let Operand { content, reach } = x;
             let list = listed(alloc, list, content)?;
-            Ok(Step::Next(Standing::Have(whole_operand(
-                Expr::Cat(list),
-                low.max(reach),
-            ))))
+            Ok(Step::Next(Standing::Have(whole_operand(Expr::Cat(list), low.max(reach)))))
         }
         Symbol::LeftBrace => begin_repeat(alloc, stack, list, low, x),
         _ => Ok(bad(Frame::Brace(list, low), x)),
@@ -271,11 +253,7 @@ fn end_repeat(
 }
 
 /// A name with one more select.
-fn named_select(
-    path: Path,
-    mut selects: Items<Select>,
-    select: Select,
-) -> Result<Content, NoMemory>
+fn named_select(path: Path, mut selects: Items<Select>, select: Select) -> Result<Content, NoMemory>
     ensures { IfOk result (λ r. r ≡ Content.Name path (selects ++ (select ∷ []))) }
 {
     selects.push(select)?;
@@ -564,10 +542,7 @@ fn sized(
         };
         free_literal(alloc, stack, x, literal, based)
     } else {
-        Ok(Step::Next(Standing::Have(whole_operand(
-            Expr::Lit(literal),
-            reach,
-        ))))
+        Ok(Step::Next(Standing::Have(whole_operand(Expr::Lit(literal), reach))))
     }
 }
 
@@ -648,20 +623,12 @@ fn based_operand(stack: &Stack, based: Based) -> Step
             Step::Bad
         }
     } else {
-        Step::Next(Standing::Have(whole_operand(
-            Expr::Lit(literal),
-            stack.depth + 1,
-        )))
+        Step::Next(Standing::Have(whole_operand(Expr::Lit(literal), stack.depth + 1)))
     }
 }
 
 /// A token where an operand has to follow.
-fn before(
-    alloc: Global,
-    text: &[u8],
-    stack: &mut Stack,
-    symbol: Symbol,
-) -> Result<Step, NoMemory>
+fn before(alloc: Global, text: &[u8], stack: &mut Stack, symbol: Symbol) -> Result<Step, NoMemory>
     requires { stack.old.depth ≤ 1000 }
     ensures { IfOk result (λ r. step.seen_step r stack.new.frames.items ≡ step.before text.now symbol stack.old.frames.items) }
 {

@@ -403,7 +403,7 @@ fn spread(alloc: Global, text: &[u8], bytes: &[u8]) -> Result<Vec<Token>, Fail> 
     Ok(list)
 }
 
-const HEIGHTS: [(bool, u32, &str, &str, &str, &str); 24] = [
+const HEIGHTS: [(bool, u32, &str, &str, &str, &str); 21] = [
     (false, 198, "~", "a", "", "199"),
     (false, 199, "~", "a", "", "200"),
     (false, 200, "~", "a", "", "depth 199"),
@@ -424,9 +424,6 @@ const HEIGHTS: [(bool, u32, &str, &str, &str, &str); 24] = [
     (true, 200, "~", "a[1].a", "", "depth 201"),
     (false, 200000, "(", "a", ")", "400001"),
     (false, 200000, "(", "a", "", "syntax 200001"),
-    (false, 200000, "+", "a", "", "200001"),
-    (false, 200000, "(", "", "", "syntax 200000"),
-    (true, 200000, "(", "a", ")", "400001"),
     (true, 200000, "+(", "a", ")", "600001"),
 ];
 

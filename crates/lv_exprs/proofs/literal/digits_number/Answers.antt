@@ -1,4 +1,4 @@
-use Rattle.std.proofs.Common.{◌≡◌, ◌%◌, ◌^◌, ◌+◌, ◌*◌, ap, sym, ◌∙◌, drop, get_or}
+use Rattle.std.proofs.Common.{◌%◌, ◌^◌, ◌+◌, ◌*◌, ap, sym, ◌∙◌, drop, get_or}
 use Rattle.lv_exprs.specs.Literals.{digits_number}
 use Rattle.lv_exprs.proofs.Digits.{digit_on, passed_on, dropped}
 use Rattle.lv_exprs.proofs.literal.digits_number.Goals.{then-not-is_passed, else-not-is_passed}

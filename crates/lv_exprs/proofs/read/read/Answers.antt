@@ -1,9 +1,8 @@
-use Rattle.std.proofs.Common.{◌≡◌, ◌∙◌, sym, arith, ◌≤◌, ◌<◌, ◌+◌, refl, ap, Some, None, max, length, cond, get_or, Bool, true, false, inl, inr}
+use Rattle.std.proofs.Common.{◌≡◌, ◌∙◌, sym, arith, ◌≤◌, ap, cond, inl}
 use Rattle.std.proofs.lemmas.List.{get_or-map}
 use Rattle.lv_exprs.specs.declared.symbol.Symbol.TheVariants as t
 use Rattle.lv_exprs.specs.Steps as step
 use Rattle.lv_exprs.specs.Symbols.{symbol, symbols}
-use Rattle.lv_exprs.specs.Stands.{Stands}
 use Rattle.lv_exprs.proofs.Standing.{begin, goes_on, is_done, is_whole, is_bad, is_deep, ends_read, ends_fail}
 use Rattle.lv_exprs.proofs.Within.{next_raised, ending_within, raised_nodes, reached_nodes}
 use Rattle.lv_exprs.proofs.Finished.{finished, fewer, all_read, limit_le, limit_ge}

@@ -1,4 +1,4 @@
-use Rattle.std.proofs.Common.{◌≡◌, ◌-◌, ◌≤◌, length, cond}
+use Rattle.std.proofs.Common.{◌-◌, ◌≤◌, length, cond}
 use Rattle.lv_exprs.specs.Symbols.{symbols}
 use Rattle.lv_exprs.specs.Steps.{reached}
 use Rattle.lv_exprs.specs.Stands.{Stands}

@@ -1,4 +1,4 @@
-use Rattle.std.proofs.Common.{arith, ◌≤◌}
+use Rattle.std.proofs.Common.{arith}
 use Rattle.lv_exprs.proofs.Within.{lower_reach}
 use Rattle.lv_exprs.proofs.steps.lowered.Goals as goal
 

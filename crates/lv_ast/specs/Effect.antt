@@ -119,7 +119,7 @@ case_effect wild x arms names s =
 -- the index of a loop, at a turn
 abbrev pub with_index : Names → Name → ℕ → ℕ → Names
 with_index names index place value =
-    with_name names index (Some (record { path = index; width = 32; bounds = record { left = 31; right = 0 }; ranged = true; signed = true; array = None; sort = Constant value; place = place; early = true }))
+    with_name names index (Some (record { path = index; bounds = record { left = 31; right = 0 }; ranged = true; signed = true; array = None; sort = Constant value; place = place; early = true }))
 
 -- a number as a loop index keeps it
 abbrev pub index_value : Names → Expr → ℕ

@@ -112,26 +112,25 @@ fn show_path(alloc: Global, out: &mut Vec<u8>, path: &Path) -> Result<(), Fail> 
 }
 
 #[cycle(shows)]
-fn show_pair(
-    alloc: Global,
-    out: &mut Vec<u8>,
-    a: &Expr,
-    middle: &str,
-    b: &Expr,
-) -> Result<(), Fail> {
-    show(alloc, out, a)?;
-    put(out, middle)?;
-    show(alloc, out, b)
-}
-
-#[cycle(shows)]
 fn show_select(alloc: Global, out: &mut Vec<u8>, select: &Select) -> Result<(), Fail> {
     put(out, "[")?;
     match select {
         Select::Bit(a) => show(alloc, out, a.get())?,
-        Select::Part(a, b) => show_pair(alloc, out, a.get(), ":", b.get())?,
-        Select::Up(a, b) => show_pair(alloc, out, a.get(), "+:", b.get())?,
-        Select::Down(a, b) => show_pair(alloc, out, a.get(), "-:", b.get())?,
+        Select::Part(a, b) => {
+            show(alloc, out, a.get())?;
+            put(out, ":")?;
+            show(alloc, out, b.get())?;
+        }
+        Select::Up(a, b) => {
+            show(alloc, out, a.get())?;
+            put(out, "+:")?;
+            show(alloc, out, b.get())?;
+        }
+        Select::Down(a, b) => {
+            show(alloc, out, a.get())?;
+            put(out, "-:")?;
+            show(alloc, out, b.get())?;
+        }
     }
     put(out, "]")
 }
@@ -160,45 +159,59 @@ fn show_name(
     Ok(())
 }
 
-#[cycle(shows)]
-fn show_node(alloc: Global, out: &mut Vec<u8>, e: &Expr) -> Result<(), Fail> {
+/// A bracket round a node.
+fn bracket(e: &Expr, text: &'static str) -> &'static str {
     match e {
-        Expr::Un(op, a) => {
-            put(out, op_text(*op))?;
-            show(alloc, out, a.get())
-        }
-        Expr::Bin(op, a, b) => show_pair(alloc, out, a.get(), op_text(*op), b.get()),
-        Expr::Div(a, b) => show_pair(alloc, out, a.get(), "/", b.get()),
-        Expr::Rem(a, b) => show_pair(alloc, out, a.get(), "%", b.get()),
-        Expr::Cond(c, a, b) => {
-            show_pair(alloc, out, c.get(), "?", a.get())?;
-            put(out, ":")?;
-            show(alloc, out, b.get())
-        }
-        Expr::Rep(n, list) => {
-            show(alloc, out, n.get())?;
-            show_list(alloc, out, list.as_slice())
-        }
-        Expr::Cast(signed, a) => {
-            put(out, if *signed { "s" } else { "u" })?;
-            show(alloc, out, a.get())
-        }
-        _ => Ok(()),
+        Expr::Lit(_) => "",
+        Expr::Name(_, _) => "",
+        Expr::Cat(_) => "",
+        _ => text,
     }
 }
 
 #[cycle(shows)]
 fn show(alloc: Global, out: &mut Vec<u8>, e: &Expr) -> Result<(), Fail> {
+    put(out, bracket(e, "("))?;
     match e {
-        Expr::Lit(l) => show_literal(alloc, out, l),
-        Expr::Name(path, selects) => show_name(alloc, out, path, selects.as_slice()),
-        Expr::Cat(list) => show_list(alloc, out, list.as_slice()),
-        _ => {
-            put(out, "(")?;
-            show_node(alloc, out, e)?;
-            put(out, ")")
+        Expr::Lit(l) => show_literal(alloc, out, l)?,
+        Expr::Name(path, selects) => show_name(alloc, out, path, selects.as_slice())?,
+        Expr::Cat(list) => show_list(alloc, out, list.as_slice())?,
+        Expr::Un(op, a) => {
+            put(out, op_text(*op))?;
+            show(alloc, out, a.get())?;
+        }
+        Expr::Bin(op, a, b) => {
+            show(alloc, out, a.get())?;
+            put(out, op_text(*op))?;
+            show(alloc, out, b.get())?;
+        }
+        Expr::Div(a, b) => {
+            show(alloc, out, a.get())?;
+            put(out, "/")?;
+            show(alloc, out, b.get())?;
+        }
+        Expr::Rem(a, b) => {
+            show(alloc, out, a.get())?;
+            put(out, "%")?;
+            show(alloc, out, b.get())?;
+        }
+        Expr::Cond(c, a, b) => {
+            show(alloc, out, c.get())?;
+            put(out, "?")?;
+            show(alloc, out, a.get())?;
+            put(out, ":")?;
+            show(alloc, out, b.get())?;
+        }
+        Expr::Rep(n, list) => {
+            show(alloc, out, n.get())?;
+            show_list(alloc, out, list.as_slice())?;
+        }
+        Expr::Cast(signed, a) => {
+            put(out, if *signed { "s" } else { "u" })?;
+            show(alloc, out, a.get())?;
         }
     }
+    put(out, bracket(e, ")"))
 }
 
 /// The number of tokens and the tree, or the refusal.

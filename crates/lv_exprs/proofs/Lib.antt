@@ -1,0 +1,12 @@
+pub mod Answers
+pub mod Continued
+pub mod Digits
+pub mod Ends
+pub mod Finished
+pub mod Followed
+pub mod Heights
+pub mod Kept
+pub mod Shown
+pub mod Standing
+pub mod Unique
+pub mod Within

@@ -1,0 +1,13 @@
+pub mod Answers
+pub mod Forms
+pub mod Heights
+pub mod Laws
+pub mod Levels
+pub mod Literals
+pub mod Lows
+pub mod Machine
+pub mod Reading
+pub mod Stands
+pub mod Steps
+pub mod Symbols
+pub mod Trees

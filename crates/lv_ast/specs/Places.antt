@@ -3,7 +3,7 @@ use Rattle.std.specs.Prelude.{ℕ, zero, suc, ◌+◌, ◌-◌, ◌*◌, ◌/◌
 use Rattle.std.specs.List.{list_any, flat_map, range_with_len}
 use Rattle.lv_ast.specs.declared.expr.Expr.TheOpen.{Select-F}
 use Rattle.lv_ast.specs.Values.{Chosen, own_value, number_of, nowhere}
-use Rattle.lv_ast.specs.Names.{Name, Bounds, Declared, Valuation, Sort, Constant, at_index, is_signal_sort}
+use Rattle.lv_ast.specs.Names.{Name, Bounds, Declared, Valuation, Sort, Input, Net, Variable, Constant, low, high, size, width_of, at_index}
 
 -- one bit of a value
 pub record Bit : Type 0 where
@@ -18,15 +18,6 @@ pub record Place : Type 0 where
 -- whether the left bound is the greater one
 abbrev pub falls : Bounds → Bool
 falls b = not (nat_lt b.left b.right)
-
-abbrev pub low : Bounds → ℕ
-low b = min b.left b.right
-
-abbrev pub high : Bounds → ℕ
-high b = max b.left b.right
-
-abbrev pub size : Bounds → ℕ
-size b = high b - low b + 1
 
 abbrev pub within : ℕ → ℕ → ℕ → Bool
 within low high i = not (nat_lt i low) && not (nat_lt high i)
@@ -64,7 +55,7 @@ all_bits (suc n) = all_bits n ++ Some n ∷ []
 
 -- the bits of a name, without the select of an element
 abbrev pub bits_of : Declared → List Chosen → Valuation → List (Option ℕ)
-bits_of d [] v = all_bits d.width
+bits_of d [] v = all_bits (width_of d)
 bits_of d (s ∷ ss) v = bits_from d.bounds (lowest s v) (count_of s)
 
 abbrev pub nowhere_place : List (Option ℕ) → Place
@@ -79,7 +70,7 @@ element d b (pos i) ss v =
 
 abbrev pub place_by : Option Bounds → Declared → List Chosen → Valuation → Place
 place_by None d ss v = record { name = d.path; bits = bits_of d ss v }
-place_by (Some b) d [] v = nowhere_place (all_bits d.width)
+place_by (Some b) d [] v = nowhere_place (all_bits (width_of d))
 place_by (Some b) d (s ∷ ss) v = element d b (lowest s v) ss v
 
 abbrev pub place_of : Declared → List Chosen → Valuation → Place
@@ -91,10 +82,13 @@ bit_selects None ss = ss
 bit_selects (Some b) [] = []
 bit_selects (Some b) (s ∷ ss) = ss
 
--- a constant has its value everywhere
+-- a constant has its value everywhere; a name that is no signal reads 0
 abbrev pub held : Sort → Valuation → Valuation
 held (Constant x) v name = x
-held _ v name = v name
+held Input v name = v name
+held Net v name = v name
+held Variable v name = v name
+held _ v name = 0
 
 -- ---- reading and writing
 
@@ -104,8 +98,9 @@ read_bits a [] = 0
 read_bits a (None ∷ ks) = 2 * read_bits a ks
 read_bits a (Some k ∷ ks) = a / 2 ^ k % 2 + 2 * read_bits a ks
 
+-- the bits above, the new bit and the bits below
 abbrev pub set_bit : ℕ → ℕ → ℕ → ℕ
-set_bit a k x = a - (a / 2 ^ k % 2) * 2 ^ k + x * 2 ^ k
+set_bit a k x = a / 2 ^ (k + 1) * 2 ^ (k + 1) + x * 2 ^ k + a % 2 ^ k
 
 -- writing it has no effect
 abbrev pub write_bits : ℕ → List (Option ℕ) → ℕ → ℕ
@@ -147,7 +142,7 @@ bits_below width name = map (λ k. record { name = name; place = k }) (range_wit
 
 -- all bits of a signal
 abbrev pub whole : Declared → List Bit
-whole d = if is_signal_sort d.sort then flat_map (bits_below d.width) (cells d) else []
+whole d = flat_map (bits_below (width_of d)) (cells d)
 
 abbrev pub bit_at : Valuation → Bit → ℕ
 bit_at v b = v b.name / 2 ^ b.place % 2

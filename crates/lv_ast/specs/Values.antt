@@ -26,8 +26,9 @@ abbrev pub size_of : Option ℕ → ℕ
 size_of None = 32
 size_of (Some n) = n
 
+-- a too long one loses its high bits
 abbrev pub literal : Literal → Meaning
-literal l = record { width = size_of l.size; signed = l.signed; value = λ W T v. extended T (size_of l.size) W l.value }
+literal l = record { width = size_of l.size; signed = l.signed; value = λ W T v. extended T (size_of l.size) W (l.value % 2 ^ size_of l.size) }
 
 -- a word of its own width, extended to a greater one
 abbrev pub plain : ℕ → Bool → (Valuation → ℕ) → Meaning

@@ -1,6 +1,6 @@
 -- What the directives make of a token list (IEEE 1364-2005, section 19, as far as this profile takes it).
 use Rattle.std.specs.Prelude.{ℕ, zero, suc, ◌+◌, Bool, true, false, not, ◌&&◌, ◌||◌, if◌then◌else◌, ◌==◌, List, [], ◌∷◌, ◌++◌, length, bytes_eq, Option, Some, None, is_some, codes}
-use Rattle.std.specs.List.{list_any, list_all, filter}
+use Rattle.std.specs.List.{list_any, filter}
 use Rattle.lv_ast.specs.Tokens.{token_bytes, tail}
 use Rattle.lv_ast.specs.declared.tokens.Kind.{Kind}
 use Rattle.lv_ast.specs.declared.tokens.Kind.TheVariants.{Name, Word, Tick, Line, Join}
@@ -163,8 +163,10 @@ pub record Branch : Type 0 where
   pub kept : Bool
   pub last : Bool
 
+-- whether tokens are read: a conditional inside of a branch that is not kept keeps none
 abbrev pub is_read : List Branch → Bool
-is_read open_ones = list_all (λ b. b.kept) open_ones
+is_read [] = true
+is_read (b ∷ bs) = b.kept
 
 -- what one token does: what it gives, and the macros, the open conditionals and the count of tokens taken after it
 pub record Step : Type 0 where

@@ -1,9 +1,17 @@
 pub mod Backslash
+pub mod Branches
 pub mod Comments
+pub mod Expansions
+pub mod Folding
+pub mod Followed
 pub mod Fronts
 pub mod Leads
+pub mod Lines
 pub mod Literals
 pub mod Longest
 pub mod Marks
 pub mod Stands
+pub mod StepLaws
+pub mod Tables
 pub mod Unique
+pub mod Whole

@@ -18,3 +18,25 @@ pub enum LexError {
     #[error("out of memory")]
     NoMemory,
 }
+
+/// Why directives are refused. A place is that of the tick of the directive or of the use.
+#[derive(Clone, Copy, Debug, PartialEq, Eq, Error)]
+pub enum DirectiveError {
+    /// A use of a macro that is not defined.
+    #[error("the macro at byte {0} is not defined")]
+    UnknownMacro(u64),
+    /// An `elsif`, `else` or `endif` that fits no open conditional, or a conditional that is open at the text's end.
+    #[error("the conditional at byte {0} is not balanced")]
+    Unbalanced(u64),
+    /// A directive without its name on its line, or a definition that is not taken.
+    #[error("the directive at byte {0} is malformed")]
+    Malformed(u64),
+    /// Uses nested more than 64 deep.
+    #[error("uses of macros at byte {0} are nested too deep")]
+    Depth(u64),
+    /// More tokens given and uses made than the limit.
+    #[error("{0} tokens and uses of macros or more")]
+    TooMany(u64),
+    #[error("out of memory")]
+    NoMemory,
+}

@@ -3,12 +3,17 @@
 
 mod bytes;
 mod error;
+mod folds;
 mod lexer;
 mod literal;
+mod macros;
+mod output;
 mod scan;
+mod spans;
 #[cfg(test)]
 mod tests;
 mod words;
 
-pub use error::LexError;
+pub use error::{DirectiveError, LexError};
+pub use folds::directives;
 pub use lexer::lex;

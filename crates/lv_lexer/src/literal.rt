@@ -79,7 +79,7 @@ fn after_blanks(bytes: &[u8]) -> &[u8]
     skip(bytes, front(bytes, Class::Blank))
 }
 
-fn after_first(bytes: &[u8]) -> &[u8]
+pub fn after_first(bytes: &[u8]) -> &[u8]
     ensures { result.now ≡ tail bytes.now }
 {
     match split(bytes) {

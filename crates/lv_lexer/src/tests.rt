@@ -1,6 +1,7 @@
-use crate::{LexError, lex};
+use crate::spans::token_bytes;
+use crate::{DirectiveError, LexError, directives, lex};
 use lv_ast::{Kind, Token};
-use std::alloc::Global;
+use std::alloc::{AllocError, Global};
 use std::process::Abort;
 use std::test::Fail;
 
@@ -153,4 +154,152 @@ fn refuses_texts(rt: HostRuntime) -> Result<(), Fail> {
     refuses(&rt, alloc, &many, LexError::TooMany(500_001));
     assert!(rt; lex(alloc, &many[1..]).is_ok());
     Ok(())
+}
+
+// The tokens that the directives leave, written with one space between two.
+fn folds(rt: &impl Abort, alloc: Global, text: &[u8], expected: &[u8]) -> Result<(), Fail> {
+    let Ok(tokens) = lex(alloc, text) else {
+        return Err(Fail::from("no tokens"));
+    };
+    match directives(alloc, tokens) {
+        Ok(folded) => {
+            let mut written: Vec<u8> = Vec::new(alloc);
+            for token in folded.list.as_slice() {
+                for byte in token_bytes(text, *token) {
+                    written.push(*byte)?;
+                }
+                written.push(b' ')?;
+            }
+            assert_eq!(rt; written.as_slice(), expected);
+            Ok(())
+        }
+        Err(error) => panic!(rt; "{error:?}"),
+    }
+}
+
+fn fold_refuses(
+    rt: &impl Abort,
+    alloc: Global,
+    text: &[u8],
+    expected: DirectiveError,
+) -> Result<(), Fail> {
+    let Ok(tokens) = lex(alloc, text) else {
+        return Err(Fail::from("no tokens"));
+    };
+    match directives(alloc, tokens) {
+        Ok(_) => panic!(rt; "no refusal"),
+        Err(error) => {
+            assert_eq!(rt; error, expected);
+            Ok(())
+        }
+    }
+}
+
+#[test]
+fn folds_directives(rt: HostRuntime) -> Result<(), Fail> {
+    let alloc = rt.alloc();
+    let rows: [(&[u8], &[u8]); 19] = [
+        (b"a\nb \\\n c // d\n", b"a b c "),
+        (b"`define X q ^ d\n`X; // sum\n", b"q ^ d ; "),
+        (b"`define X a \\\n b\n`X `X", b"a b a b "),
+        (b"`define X\n[`X]", b"[ ] "),
+        (b"`define X (a)\n`X", b"( a ) "),
+        (b"`define X 1\n`define X 2\n`X", b"2 "),
+        (b"`define X 1\n`define Y `X 3\n`define X 2\n`Y", b"2 3 "),
+        (
+            b"`define X 1\n`undef X\n`undef Y\n`ifdef X a `else b `endif",
+            b"b ",
+        ),
+        (b"`ifndef X a `elsif Y b `else c `endif d", b"a d "),
+        (
+            b"`define Y\n`ifdef X a `elsif Y b `elsif Y c `else d `endif",
+            b"b ",
+        ),
+        (b"`ifdef X a `elsif Y b `else c `endif", b"c "),
+        (
+            b"`ifdef X `ifdef Y a `else b `endif `unknown `define Z `else\n c `endif",
+            b"c ",
+        ),
+        (b"`ifdef X `ifndef Y a `endif `endif d", b"d "),
+        (
+            b"`define X\n`ifdef X `ifdef Y a `else b `endif `else c `endif",
+            b"b ",
+        ),
+        (
+            b"`timescale 1/1 foo\na `default_nettype none\n`resetall\nb",
+            b"a b ",
+        ),
+        (b"`ifdef \\\n X a `else b `endif", b"b "),
+        (b"`define \\\n X \\\r\n 3\n`X", b"3 "),
+        (b"`define wire 1\n`wire", b"1 "),
+        (b"`define X 1", b""),
+    ];
+    for (text, expected) in rows {
+        folds(&rt, alloc, text, expected)?;
+    }
+    Ok(())
+}
+
+#[test]
+fn refuses_directives(rt: HostRuntime) -> Result<(), Fail> {
+    use DirectiveError::{Malformed, TooMany, Unbalanced, UnknownMacro};
+    let alloc = rt.alloc();
+    let rows: [(&[u8], DirectiveError); 18] = [
+        (b"a `X", UnknownMacro(2)),
+        (b"`define X `Y\n `X", UnknownMacro(10)),
+        (b"`define X 1\n`undef X\n`X", UnknownMacro(21)),
+        (b"`else", Unbalanced(0)),
+        (b" `endif", Unbalanced(1)),
+        (b"`elsif X", Unbalanced(0)),
+        (b"`ifdef X `else `else `endif", Unbalanced(15)),
+        (b"`ifdef X `else `elsif X `endif", Unbalanced(15)),
+        (b"`ifdef X a", Unbalanced(10)),
+        (b"`ifdef X `ifdef Y `endif", Unbalanced(24)),
+        (b"`ifdef\nX", Malformed(0)),
+        (b"a `define 3", Malformed(2)),
+        (b"`define X(a) a", Malformed(0)),
+        (b"`define else 1", Malformed(0)),
+        (b"`define X `ifdef Y\n", Malformed(0)),
+        (b"`undef \\X ", Malformed(0)),
+        (b"`define X `X `X\n`X", DirectiveError::Depth(10)),
+        (
+            b"`define a ;\n`define b `a`a`a`a`a`a`a`a`a`a\n`define c `b`b`b`b`b`b`b`b`b`b\n`define d `c`c`c`c`c`c`c`c`c`c\n`define e `d`d`d`d`d`d`d`d`d`d\n`define f `e`e`e`e`e`e`e`e`e`e\n`define g `f`f`f`f`f`f`f`f`f`f\n`g",
+            TooMany(500_001),
+        ),
+    ];
+    for (text, expected) in rows {
+        fold_refuses(&rt, alloc, text, expected)?;
+    }
+    Ok(())
+}
+
+// Macros m, mm and so on, each but the first with a use of the one before, and a use of the last.
+fn chain(alloc: Global, count: usize) -> Result<Vec<u8>, AllocError> {
+    let mut text = Vec::new(alloc);
+    for n in 1..=count {
+        text.extend_from_slice(b"`define ")?;
+        for _ in 0..n {
+            text.push(b'm')?;
+        }
+        text.push(b' ')?;
+        text.push(if n == 1 { b';' } else { b'`' })?;
+        for _ in 1..n {
+            text.push(b'm')?;
+        }
+        text.push(b'\n')?;
+    }
+    text.push(b'`')?;
+    for _ in 0..count {
+        text.push(b'm')?;
+    }
+    Ok(text)
+}
+
+#[test]
+fn nests_uses(rt: HostRuntime) -> Result<(), Fail> {
+    let alloc = rt.alloc();
+    let deep = chain(alloc, 64)?;
+    folds(&rt, alloc, &deep, b"; ")?;
+    let deeper = chain(alloc, 65)?;
+    fold_refuses(&rt, alloc, &deeper, DirectiveError::Depth(23))
 }

@@ -1,0 +1,14 @@
+//! A leakage contract verifier for processors.
+#![tactic(auto)]
+
+mod formula;
+mod problem;
+mod queries;
+mod splitter;
+mod verdict;
+
+use std::io;
+
+fn main(rt: HostRuntime) -> io::Result<()> {
+    println!(rt; "usage: leave MODE FILE [--out NAME]")
+}

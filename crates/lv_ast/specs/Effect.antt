@@ -1,0 +1,181 @@
+-- What a statement does to a valuation, and the updates that it leaves (IEEE 1364-2005, section 9).
+use Rattle.std.specs.Prelude.{ℕ, zero, suc, ◌/◌, ◌%◌, ◌^◌, max, Bool, true, false, not, ◌&&◌, if◌then◌else◌, ◌==◌, List, [], ◌∷◌, ◌++◌, map, length, sum, bit_or, Option, Some, None, flat_map}
+use Rattle.std.specs.List.{list_any}
+use Rattle.lv_bits.specs.Values.{extended}
+use Rattle.lv_ast.specs.declared.expr.Path.{Path}
+use Rattle.lv_ast.specs.declared.expr.Literal.{Literal}
+use Rattle.lv_ast.specs.declared.expr.Expr.{Expr}
+use Rattle.lv_ast.specs.declared.expr.Expr.TheVariants as e
+use Rattle.lv_ast.specs.declared.stmt.Target.{Target}
+use Rattle.lv_ast.specs.declared.stmt.Target.TheOpen.{Target-F}
+use Rattle.lv_ast.specs.declared.stmt.Stmt.{Stmt}
+use Rattle.lv_ast.specs.declared.stmt.Stmt.TheOpen.{Stmt-F, Arm-F}
+use Rattle.lv_ast.specs.Values.{Meaning, size_of, nowhere}
+use Rattle.lv_ast.specs.Trees.{fold_target, fold_stmt}
+use Rattle.lv_ast.specs.Names.{Name, Names, Declared, Valuation, Constant, with_name, known}
+use Rattle.lv_ast.specs.Places.{Place, place_of, write}
+use Rattle.lv_ast.specs.Meaning.{Choice, meant, read_select, meaning, own, constant_value}
+
+-- a name in a target, with its selects
+pub record Piece : Type 0 where
+  pub path : Path
+  pub declared : Option Declared
+  pub choices : List Choice
+
+pub record Update : Type 0 where
+  pub places : List Place
+  pub value : ℕ
+
+pub record State : Type 0 where
+  pub valuation : Valuation
+  pub pending : List Update
+
+abbrev pub Effect : Type 0
+Effect = Names → State → State
+
+-- ---- targets
+
+abbrev pub piece_step : Names → Target-F (List Piece) → List Piece
+piece_step names (Target-F.Name path ss) = record { path = path; declared = names path; choices = map (read_select names) ss } ∷ []
+piece_step names (Target-F.Cat parts) = flat_map (λ ps. ps) parts
+
+-- the names of a target, from left to right
+unfoldable pub pieces : Names → Target → List Piece
+pieces names t = fold_target (List Piece) (piece_step names) t
+
+abbrev pub piece_place : Valuation → Piece → Place
+piece_place v p = place_of (known p.declared) (map meant p.choices) v
+
+abbrev pub places : Valuation → List Piece → List Place
+places v ps = map (piece_place v) ps
+
+abbrev pub bits_in : List Place → ℕ
+bits_in ps = sum (map (λ p. length p.bits) ps)
+
+-- the leftmost gets the highest bits
+abbrev pub write_all : Valuation → List Place → ℕ → Valuation
+write_all v [] x = v
+write_all v (p ∷ ps) x = write_all (write v p (x / 2 ^ bits_in ps % 2 ^ length p.bits)) ps x
+
+-- a value at the width of the greater side
+abbrev pub assigned : Valuation → ℕ → Meaning → ℕ
+assigned v width m = m.value (max width m.width) m.signed v % 2 ^ width
+
+-- ---- case
+
+abbrev pub is_set : Names → Valuation → Expr → Bool
+is_set names v x = not (own names x v == 0)
+
+abbrev pub no_literal : Literal
+no_literal = record { size = None; plain = false; signed = false; value = 0; wild = 0; place = 0 }
+
+-- without a size the free bits may go on above the 32
+abbrev pub free_bits : Bool → ℕ → Expr → ℕ
+free_bits signed w (e.Lit l) = let n : ℕ = size_of l.size in bit_or (l.wild % 2 ^ w) (extended signed n w (l.wild % 2 ^ n))
+free_bits signed w _ = 0
+
+pub record Width : Type 0 where
+  pub width : ℕ
+  pub signed : Bool
+
+-- the longest width of a `case`, and whether all are signed
+abbrev pub common : Names → Expr → List Expr → Width
+common names x [] = record { width = (meaning names x).width; signed = (meaning names x).signed }
+common names x (l ∷ ls) = let c : Width = common names x ls in record { width = max (meaning names l).width c.width; signed = (meaning names l).signed && c.signed }
+
+-- the number x, at that width, fits the label
+abbrev pub is_match : Names → Valuation → Bool → Width → ℕ → Expr → Bool
+is_match names v wild c x label =
+    let free : ℕ = if wild then free_bits c.signed c.width label else 0 in
+    bit_or x free == bit_or ((meaning names label).value c.width c.signed v) free
+
+pub record ArmOf (A : Type 0) : Type 0 where
+  pub labels : List Expr
+  pub body : A
+
+abbrev pub is_default : List Expr → Bool
+is_default [] = true
+is_default (x ∷ xs) = false
+
+abbrev pub all_labels : {A : Type 0} → List (ArmOf A) → List Expr
+all_labels arms = flat_map (λ a. a.labels) arms
+
+-- the first arm with a label that fits, or the default
+abbrev pub arm_taken : {A : Type 0} → (Expr → Bool) → List (ArmOf A) → A → A
+arm_taken fits [] default = default
+arm_taken fits (a ∷ arms) default =
+    if list_any fits a.labels then a.body else arm_taken fits arms (if is_default a.labels then a.body else default)
+
+abbrev pub unchanged : Effect
+unchanged names s = s
+
+abbrev pub case_effect : Bool → Expr → List (ArmOf Effect) → Effect
+case_effect wild x arms names s =
+    let c : Width = common names x (all_labels arms) in
+    arm_taken (is_match names s.valuation wild c ((meaning names x).value c.width c.signed s.valuation)) arms unchanged names s
+
+-- ---- loops
+
+-- the index of a loop, at a turn
+abbrev pub with_index : Names → Name → ℕ → ℕ → Names
+with_index names index place value =
+    with_name names index (Some (record { path = index; bounds = record { left = 31; right = 0 }; ranged = true; signed = true; array = None; sort = Constant value; place = place; early = true }))
+
+-- a number as a loop index keeps it
+abbrev pub index_value : Names → Expr → ℕ
+index_value names x = assigned nowhere 32 (meaning names x)
+
+-- the values of the index, turn by turn, while the test isn't 0
+unfoldable pub turns_from : ℕ → Names → Name → ℕ → Expr → Expr → ℕ → List ℕ
+turns_from zero names index place test next value = []
+turns_from (suc n) names index place test next value =
+    let here : Names = with_index names index place value in
+    elim (constant_value here test == 0) [ true ↦ [] | false ↦ value ∷ turns_from n names index place test next (index_value here next) ]
+
+unfoldable pub turns : Names → Name → ℕ → Expr → Expr → Expr → List ℕ
+turns names index place start test next = turns_from 1000001 names index place test next (index_value names start)
+
+-- ---- statements
+
+abbrev pub in_order : List Effect → Effect
+in_order [] names s = s
+in_order (f ∷ fs) names s = in_order fs names (f names s)
+
+abbrev pub otherwise : Option Effect → Effect
+otherwise None names s = s
+otherwise (Some f) names s = f names s
+
+-- the body of a loop, once for each value
+abbrev pub each_turn : (ℕ → Names) → Effect → List ℕ → State → State
+each_turn at body [] s = s
+each_turn at body (x ∷ xs) s = each_turn at body xs (body (at x) s)
+
+abbrev pub effect_step : Stmt-F Effect (ArmOf Effect) → Effect
+effect_step Stmt-F.Null names s = s
+effect_step (Stmt-F.Block name body) names s = in_order body names s
+effect_step (Stmt-F.If x then_ else_) names s = if is_set names s.valuation x then then_ names s else otherwise else_ names s
+effect_step (Stmt-F.Case wild x arms) names s = case_effect wild x arms names s
+effect_step (Stmt-F.Loop index start test again next body) names s =
+    each_turn (with_index names index.name index.place) body (turns names index.name index.place start test next) s
+effect_step (Stmt-F.Now target x place) names s =
+    let ps : List Place = places s.valuation (pieces names target) in
+    record s { valuation = write_all s.valuation ps (assigned s.valuation (bits_in ps) (meaning names x)) }
+effect_step (Stmt-F.Later target x place) names s =
+    let ps : List Place = places s.valuation (pieces names target) in
+    record s { pending = s.pending ++ record { places = ps; value = assigned s.valuation (bits_in ps) (meaning names x) } ∷ [] }
+
+abbrev pub arm_step : {A : Type 0} → Arm-F A (ArmOf A) → ArmOf A
+arm_step a = record { labels = a.labels; body = a.body }
+
+-- the effect of a statement: `=` changes the valuation at once, in combinational and in clocked blocks; `<=` adds an update
+-- with the value and the selected bits that it has then
+unfoldable pub executes : Names → Stmt → State → State
+executes names stmt s = fold_stmt Effect (ArmOf Effect) effect_step arm_step stmt names s
+
+abbrev pub applied : Valuation → List Update → Valuation
+applied v [] = v
+applied v (u ∷ us) = applied (write_all v u.places u.value) us
+
+-- what a block leaves of v: its own writes at once, and then its pending updates in order
+abbrev pub left_by : Names → Stmt → Valuation → Valuation
+left_by names stmt v = let s : State = executes names stmt (record { valuation = v; pending = [] }) in applied s.valuation s.pending

@@ -1,0 +1,18 @@
+//! Tokens and trees of the profile of IEEE 1364-2005 that this program reads, and in `specs/` what they mean:
+//! names, widths, types and values of expressions, places of targets, effects of statements.
+#![tactic(auto)]
+
+mod expr;
+mod item;
+mod stmt;
+#[cfg(test)]
+mod tests;
+mod tokens;
+
+pub use expr::{Expr, Literal, Path, PathStep, Select};
+pub use item::{
+    Aport, Conn, Continuous, Inst, Item, Module, NetName, Params, PortWord, Ports, Range, RegName,
+    Setting, Source, Watch,
+};
+pub use stmt::{Arm, Ident, Stmt, Target};
+pub use tokens::{Kind, Token, Tokens};

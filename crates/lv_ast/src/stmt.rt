@@ -1,0 +1,42 @@
+use crate::{Expr, Path, Select};
+use lv_bits::Text;
+use sqlite_items::{Boxed, Items};
+
+/// A name where it is declared or used.
+#[derive(Debug, Drop)]
+pub struct Ident {
+    pub name: Text,
+    pub place: u64,
+}
+
+/// What an assignment writes (IEEE 1364-2005, section 6.1.1).
+#[derive(Drop)]
+pub enum Target {
+    Name(Path, Items<Select>),
+    Cat(Items<Target>),
+}
+
+/// An arm of a `case`; one without labels is its default.
+#[cycle(statements)]
+#[derive(Drop)]
+pub struct Arm {
+    pub labels: Items<Expr>,
+    pub body: Stmt,
+}
+
+/// A statement (IEEE 1364-2005, section 9).
+#[cycle(statements)]
+#[derive(Drop)]
+pub enum Stmt {
+    Null,
+    Block(Option<Ident>, Items<Stmt>),
+    If(Expr, Boxed<Stmt>, Option<Boxed<Stmt>>),
+    /// Whether it is `casez`.
+    Case(bool, Expr, Items<Arm>),
+    /// The index and its first value, the test, and the index again with its next value.
+    Loop(Ident, Expr, Expr, Ident, Expr, Boxed<Stmt>),
+    /// A blocking assignment, with the place of its target.
+    Now(Target, Expr, u64),
+    /// A nonblocking assignment, with the place of its target.
+    Later(Target, Expr, u64),
+}

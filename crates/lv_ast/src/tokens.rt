@@ -1,0 +1,42 @@
+use lv_bits::Text;
+use sqlite_items::Items;
+
+/// The kinds of token (IEEE 1364-2005, section 3).
+#[derive(Clone, Copy, Debug, PartialEq, Eq)]
+pub enum Kind {
+    /// A simple name that is no keyword.
+    Name,
+    /// A backslash and the bytes of a name.
+    Escaped,
+    /// A keyword.
+    Word,
+    /// `$` and a simple name.
+    System,
+    /// A grave accent and a simple name: a directive or the use of a macro.
+    Tick,
+    /// A decimal digit, then digits and `_`.
+    Number,
+    /// An apostrophe, the base and its digits.
+    Based,
+    /// An operator or a punctuation mark.
+    Mark,
+    /// A newline outside of a block comment.
+    Line,
+    /// A backslash directly before a newline.
+    Join,
+}
+
+/// One token: its slice of the text is from `start` to the byte before `end`.
+#[derive(Clone, Copy, Debug, PartialEq, Eq)]
+pub struct Token {
+    pub kind: Kind,
+    pub start: u64,
+    pub end: u64,
+}
+
+/// Tokens over a text.
+#[derive(Debug, Drop)]
+pub struct Tokens {
+    pub list: Items<Token>,
+    pub text: Text,
+}

@@ -1,0 +1,5 @@
+pub mod Causes
+pub mod Files
+pub mod Given
+pub mod MemFiles
+pub mod MemGiven

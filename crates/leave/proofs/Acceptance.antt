@@ -80,25 +80,25 @@ module _ (p : Problem) (n : ℕ) (count : n ≡ suc p.registers) where
       let h : P (L (joined R I x y)) (S (joined R I x y)) = each (joined R I x y) (joined-zero R I x y) in
       subst (λ z. P x z) (right-joined R I x y zy same) (subst (λ z. P z (S (joined R I x y))) (left-joined R I x y zx) h)
 
-  initial-of : (env : Assignment) → chosen_alike R I p.equal.items env ≡ true → IsInitial m (L env) (S env)
+  initial-of : (env : Assignment) → chosen_alike R I p.equal env ≡ true → IsInitial m (L env) (S env)
   initial-of env h = record {
     left = copy-settled R I 0 env;
     right = copy-settled R I (R + I) env;
     same_inputs = λ k above. copies-share R I 0 (R + I) env k above;
-    initial = (from-chosen R I env p.equal.items h, All-nil _);
+    initial = (from-chosen R I env p.equal h, All-nil _);
   }
 
   pub base-holds : IsValid 0 (R + I + R) (base_formula p) → (x y : Assignment) → IsInitial m x y → AllHold m all x y true
   base-holds valid x y h =
       by_pairs (λ x y. IsInitial m x y → AllHold m all x y true)
       (λ env z init. numbers-hold p n count (L env) (S env) true
-          (from-first R I env R (implied-apply (chosen_alike R I p.equal.items) (state_alike p) env (valid.holds env z)
-          (chosen-from R I env p.equal.items init.initial.0))) refl)
+          (from-first R I env R (implied-apply (chosen_alike R I p.equal) (state_alike p) env (valid.holds env z)
+          (chosen-from R I env p.equal init.initial.0))) refl)
       x y h.left h.right h.same_inputs h
 
   pub base-valid : ((x y : Assignment) → IsInitial m x y → AllHold m all x y true) → IsValid 0 (R + I + R) (base_formula p)
   base-valid each = record {
-    holds = λ env z. implied-from (chosen_alike R I p.equal.items) (state_alike p) env
+    holds = λ env z. implied-from (chosen_alike R I p.equal) (state_alike p) env
         (λ h. first-from R I env R (registers-equal p n count (L env) (S env) true (each (L env) (S env) (initial-of env h))));
   }
 
@@ -108,30 +108,30 @@ module _ (p : Problem) (n : ℕ) (count : n ≡ suc p.registers) where
   Registers x y = (k : ℕ) → k < R → x k ≡ y k
 
   abbrev Shown : Assignment → Assignment → Type 0
-  Shown x y = truth p.retire x ≡ true → truth p.retire y ≡ true → values (numbers p.contract.items) x ≡ values (numbers p.contract.items) y
+  Shown x y = truth p.retire x ≡ true → truth p.retire y ≡ true → values (numbers p.contract) x ≡ values (numbers p.contract) y
 
   before-from : (env : Assignment) → Registers (L env) (S env) → Shown (L env) (S env) → both (state_alike p) (shown_alike p) env ≡ true
   before-from env same shown =
       both-from (state_alike p) (shown_alike p) env (first-from R I env R same)
-      (implied-from (both (left R I (truth p.retire)) (right R I (truth p.retire))) (all_alike R I p.contract.items) env
+      (implied-from (both (left R I (truth p.retire)) (right R I (truth p.retire))) (all_alike R I p.contract) env
       (λ h.
           let parts = both-parts (left R I (truth p.retire)) (right R I (truth p.retire)) env h in
-          all-from R I env p.contract.items (shown (sym (left-is R I env (truth p.retire)) ∙ parts.0) (sym (right-is R I env (truth p.retire)) ∙ parts.1))))
+          all-from R I env p.contract (shown (sym (left-is R I env (truth p.retire)) ∙ parts.0) (sym (right-is R I env (truth p.retire)) ∙ parts.1))))
 
   from-before : (env : Assignment) → both (state_alike p) (shown_alike p) env ≡ true → Registers (L env) (S env) × Shown (L env) (S env)
   from-before env h =
       let parts = both-parts (state_alike p) (shown_alike p) env h in (
         from-first R I env R parts.0,
-        λ e f. from-all R I env p.contract.items
-            (implied-apply (both (left R I (truth p.retire)) (right R I (truth p.retire))) (all_alike R I p.contract.items) env parts.1
+        λ e f. from-all R I env p.contract
+            (implied-apply (both (left R I (truth p.retire)) (right R I (truth p.retire))) (all_alike R I p.contract) env parts.1
             (both-from (left R I (truth p.retire)) (right R I (truth p.retire)) env (left-is R I env (truth p.retire) ∙ e) (right-is R I env (truth p.retire) ∙ f))),
       )
 
   abbrev Stepped : Assignment → Assignment → Type 0
-  Stepped x y = (values (numbers p.next.items) x ≡ values (numbers p.next.items) y) × (truth p.retire x ≡ truth p.retire y)
+  Stepped x y = (values (numbers p.next) x ≡ values (numbers p.next) y) × (truth p.retire x ≡ truth p.retire y)
 
   abbrev Seen : Assignment → Assignment → Type 0
-  Seen x y = values (numbers p.attacker.items) x ≡ values (numbers p.attacker.items) y
+  Seen x y = values (numbers p.attacker) x ≡ values (numbers p.attacker) y
 
   step-pairs :
       IsValid 0 (R + I + R) (step_formula p) → (x y : Assignment) → IsZeroOutside 0 (R + I) x → IsZeroOutside 0 (R + I) y →
@@ -139,9 +139,9 @@ module _ (p : Problem) (n : ℕ) (count : n ≡ suc p.registers) where
   step-pairs valid x y zx zy same =
       by_pairs (λ x y. Registers x y → Shown x y → Stepped x y)
       (λ env z registers shown.
-          let h = implied-apply (both (state_alike p) (shown_alike p)) (both (all_alike R I p.next.items) (alike_in R I (truth p.retire))) env (valid.holds env z) (before-from env registers shown) in
-          let parts = both-parts (all_alike R I p.next.items) (alike_in R I (truth p.retire)) env h in
-          (from-all R I env p.next.items parts.0, from-alike R I env (truth p.retire) parts.1))
+          let h = implied-apply (both (state_alike p) (shown_alike p)) (both (all_alike R I p.next) (alike_in R I (truth p.retire))) env (valid.holds env z) (before-from env registers shown) in
+          let parts = both-parts (all_alike R I p.next) (alike_in R I (truth p.retire)) env h in
+          (from-all R I env p.next parts.0, from-alike R I env (truth p.retire) parts.1))
       x y zx zy same
 
   imply-pairs :
@@ -149,29 +149,29 @@ module _ (p : Problem) (n : ℕ) (count : n ≡ suc p.registers) where
       ((k : ℕ) → R ≤ k → x k ≡ y k) → Registers x y → Shown x y → Seen x y
   imply-pairs valid x y zx zy same =
       by_pairs (λ x y. Registers x y → Shown x y → Seen x y)
-      (λ env z registers shown. from-all R I env p.attacker.items
-          (implied-apply (both (state_alike p) (shown_alike p)) (all_alike R I p.attacker.items) env (valid.holds env z) (before-from env registers shown)))
+      (λ env z registers shown. from-all R I env p.attacker
+          (implied-apply (both (state_alike p) (shown_alike p)) (all_alike R I p.attacker) env (valid.holds env z) (before-from env registers shown)))
       x y zx zy same
 
   pairs-step : ((env : Assignment) → Registers (L env) (S env) → Shown (L env) (S env) → Stepped (L env) (S env)) → IsValid 0 (R + I + R) (step_formula p)
   pairs-step each = record {
-    holds = λ env z. implied-from (both (state_alike p) (shown_alike p)) (both (all_alike R I p.next.items) (alike_in R I (truth p.retire))) env
+    holds = λ env z. implied-from (both (state_alike p) (shown_alike p)) (both (all_alike R I p.next) (alike_in R I (truth p.retire))) env
         (λ h.
             let parts = from-before env h in
             let stepped = each env parts.0 parts.1 in
-            both-from (all_alike R I p.next.items) (alike_in R I (truth p.retire)) env (all-from R I env p.next.items stepped.0) (alike-from R I env (truth p.retire) stepped.1));
+            both-from (all_alike R I p.next) (alike_in R I (truth p.retire)) env (all-from R I env p.next stepped.0) (alike-from R I env (truth p.retire) stepped.1));
   }
 
   pairs-imply : ((env : Assignment) → Registers (L env) (S env) → Shown (L env) (S env) → Seen (L env) (S env)) → IsValid 0 (R + I + R) (imply_formula p)
   pairs-imply each = record {
-    holds = λ env z. implied-from (both (state_alike p) (shown_alike p)) (all_alike R I p.attacker.items) env
-        (λ h. let parts = from-before env h in all-from R I env p.attacker.items (each env parts.0 parts.1));
+    holds = λ env z. implied-from (both (state_alike p) (shown_alike p)) (all_alike R I p.attacker) env
+        (λ h. let parts = from-before env h in all-from R I env p.attacker (each env parts.0 parts.1));
   }
 
   -- ---- rows
 
   abbrev shows : Assignment → List ℕ
-  shows x = values (numbers p.contract.items) x
+  shows x = values (numbers p.contract) x
 
   row-shown : (x : Assignment) → truth p.retire x ≡ true → m.row x ≡ shows x ∷ []
   row-shown x e = ap (λ b. (if nat_eq (bit b) 0 then [] else shows x ∷ []) ++ []) e
@@ -221,7 +221,7 @@ module _ (p : Problem) (n : ℕ) (count : n ≡ suc p.registers) where
   -- ---- the list of all candidates
 
   pub step-holds :
-      length p.next.items ≡ R → IsValid 0 (R + I + R) (step_formula p) → (x x' : Assignment) (xs : List Assignment) (y y' : Assignment) (ys : List Assignment) (a : Bool) →
+      length p.next ≡ R → IsValid 0 (R + I + R) (step_formula p) → (x x' : Assignment) (xs : List Assignment) (y y' : Assignment) (ys : List Assignment) (a : Bool) →
       IsWindow m 0 2 (x ∷ x' ∷ xs) (y ∷ y' ∷ ys) a → AllHold m all x y a → AllHold m all x' y' (aligned_after m x y a)
   step-holds size valid x x' xs y y' ys a w holds =
       let registers : Registers x y = registers-equal p n count x y a holds in
@@ -229,9 +229,9 @@ module _ (p : Problem) (n : ℕ) (count : n ≡ suc p.registers) where
       let stepped : Stepped x y = step-pairs valid x y w.left.0 w.right.0 w.same_inputs.0 registers (agree-shown x y (w.agree e)) in
       numbers-hold p n count x' y' (aligned_after m x y a)
       (λ k h.
-          let f : Formula = get_or p.next.items k (Constant true) in
-          let at : slice_get p.next.items k ≡ Some f = slice_get-get_or p.next.items k (Constant true) (omega (arith, size)) in
-          w.left.1 k f at ∙ values-at p.next.items x y stepped.0 k f at ∙ sym (w.right.1 k f at))
+          let f : Formula = get_or p.next k (Constant true) in
+          let at : slice_get p.next k ≡ Some f = slice_get-get_or p.next k (Constant true) (omega (arith, size)) in
+          w.left.1 k f at ∙ values-at p.next x y stepped.0 k f at ∙ sym (w.right.1 k f at))
       (aligned-from x y a e stepped.1)
 
   pub imply-holds :
@@ -257,38 +257,38 @@ module _ (p : Problem) (n : ℕ) (count : n ≡ suc p.registers) where
       imp.same (L env) [] (S env) [] true (window-of env shown) (numbers-hold p n count (L env) (S env) true registers refl))
 
   abbrev after : Assignment → Assignment
-  after x k = next_at p.next.items k x
+  after x k = next_at p.next k x
 
-  after-settled : length p.next.items ≡ R → (x : Assignment) → IsZeroOutside 0 (R + I) (after x)
-  after-settled size x = record { below = λ k h. absurd (omega arith); above = λ k h. next_past p.next.items k x (omega (arith, size)) }
+  after-settled : length p.next ≡ R → (x : Assignment) → IsZeroOutside 0 (R + I) (after x)
+  after-settled size x = record { below = λ k h. absurd (omega arith); above = λ k h. next_past p.next k x (omega (arith, size)) }
 
-  longer-of : length p.next.items ≡ R → (env : Assignment) → Shown (L env) (S env) → IsWindow m 0 2 (L env ∷ after (L env) ∷ []) (S env ∷ after (S env) ∷ []) true
+  longer-of : length p.next ≡ R → (env : Assignment) → Shown (L env) (S env) → IsWindow m 0 2 (L env ∷ after (L env) ∷ []) (S env ∷ after (S env) ∷ []) true
   longer-of size env shown = record {
     count = refl;
-    left = (copy-settled R I 0 env, (λ k f at. next_is p.next.items k f (L env) at), (after-settled size (L env), tt, tt));
-    right = (copy-settled R I (R + I) env, (λ k f at. next_is p.next.items k f (S env) at), (after-settled size (S env), tt, tt));
+    left = (copy-settled R I 0 env, (λ k f at. next_is p.next k f (L env) at), (after-settled size (L env), tt, tt));
+    right = (copy-settled R I (R + I) env, (λ k f at. next_is p.next k f (S env) at), (after-settled size (S env), tt, tt));
     same_inputs = (
       λ k above. copies-share R I 0 (R + I) env k above,
-      (λ k above. next_past p.next.items k (L env) (omega (arith, size)) ∙ sym (next_past p.next.items k (S env) (omega (arith, size))), tt),
+      (λ k above. next_past p.next k (L env) (omega (arith, size)) ∙ sym (next_past p.next k (S env) (omega (arith, size))), tt),
     );
     left_allowed = (All-nil _, tt);
     right_allowed = (All-nil _, tt);
     agree = λ e. shown-agree (L env) (S env) shown;
   }
 
-  pub step-valid : length p.next.items ≡ R → IsInductive m 0 all → IsValid 0 (R + I + R) (step_formula p)
+  pub step-valid : length p.next ≡ R → IsInductive m 0 all → IsValid 0 (R + I + R) (step_formula p)
   step-valid size ind = pairs-step (λ env registers shown.
       let x = L env in
       let y = S env in
       let h = ind.step x (after x) [] y (after y) [] true (longer-of size env shown) (numbers-hold p n count x y true registers refl) in (
-        values-from p.next.items x y (λ k f at.
-            let same : after x k ≡ after y k = registers-equal p n count (after x) (after y) (aligned_after m x y true) h k (omega (arith, size, slice_get_within p.next.items k f at)) in
-            sym (next_is p.next.items k f x at) ∙ same ∙ next_is p.next.items k f y at),
+        values-from p.next x y (λ k f at.
+            let same : after x k ≡ after y k = registers-equal p n count (after x) (after y) (aligned_after m x y true) h k (omega (arith, size, slice_get_within p.next k f at)) in
+            sym (next_is p.next k f x at) ∙ same ∙ next_is p.next k f y at),
         from-aligned x y true (is-aligned p n count (after x) (after y) (aligned_after m x y true) h),
       ))
 
   pub accepted_if_valid :
-      length p.next.items ≡ R → IsValid 0 (R + I + R) (base_formula p) → IsValid 0 (R + I + R) (step_formula p) → IsValid 0 (R + I + R) (imply_formula p) →
+      length p.next ≡ R → IsValid 0 (R + I + R) (base_formula p) → IsValid 0 (R + I + R) (step_formula p) → IsValid 0 (R + I + R) (imply_formula p) →
       IsInductive m 0 all × Implies m 0 all
   accepted_if_valid size base step imply = (
     record { numbers = numbers-are p n count; base = base-holds base; step = step-holds size step },
@@ -296,7 +296,7 @@ module _ (p : Problem) (n : ℕ) (count : n ≡ suc p.registers) where
   )
 
   pub accepted_by :
-      (b s i : Bool) → length p.next.items ≡ R →
+      (b s i : Bool) → length p.next ≡ R →
       (IsTrue b ↔ IsValid 0 (R + I + R) (base_formula p)) → (IsTrue s ↔ IsValid 0 (R + I + R) (step_formula p)) → (IsTrue i ↔ IsValid 0 (R + I + R) (imply_formula p)) →
       IsTrue (b && s && i) ↔ (IsInductive m 0 all × Implies m 0 all)
   accepted_by b s i size base step imply = (

@@ -5,3 +5,12 @@ pub mod Pairs
 pub mod Alike
 pub mod Candidates
 pub mod Acceptance
+pub mod Mirrors
+pub mod Numbering
+pub mod Meanings
+pub mod Joins
+pub mod Sameness
+pub mod Assigns
+pub mod Items
+pub mod Gathers
+pub mod Prepared

@@ -1,2 +1,4 @@
 pub mod Formulas
 pub mod Problems
+pub mod FirstForm
+pub mod Signals

@@ -23,7 +23,7 @@ abbrev pub design_of : Problem → Design Assignment
 design_of p =
     record {
       IsSettled = λ v. IsZeroOutside 0 (p.registers + p.inputs) v;
-      Follows = λ v w. (k : ℕ) (f : Formula) → slice_get p.next.items k ≡ Some f → w k ≡ truth f v;
+      Follows = λ v w. (k : ℕ) (f : Formula) → slice_get p.next k ≡ Some f → w k ≡ truth f v;
       SameInputs = λ l r. (k : ℕ) → p.registers ≤ k → l k ≡ r k;
     }
 
@@ -33,10 +33,10 @@ candidates_of registers = map (λ k. Eq (register k)) (range_with_len 0 register
 abbrev pub observers_of : Problem → Observers Assignment
 observers_of p =
     record {
-      ports = record { retire = number (truth p.retire); contract = numbers p.contract.items } ∷ [];
-      attacker = numbers p.attacker.items;
+      ports = record { retire = number (truth p.retire); contract = numbers p.contract } ∷ [];
+      attacker = numbers p.attacker;
       assume = [];
-      equal = map register p.equal.items;
+      equal = map register p.equal;
       each = [];
       candidates = candidates_of p.registers;
     }
@@ -77,16 +77,16 @@ module _ (p : Problem) where
   abbrev pub shown_alike : Truth
   shown_alike =
       implied (both (left p.registers p.inputs (truth p.retire)) (right p.registers p.inputs (truth p.retire)))
-      (all_alike p.registers p.inputs p.contract.items)
+      (all_alike p.registers p.inputs p.contract)
 
   abbrev pub base_formula : Truth
-  base_formula = implied (chosen_alike p.registers p.inputs p.equal.items) state_alike
+  base_formula = implied (chosen_alike p.registers p.inputs p.equal) state_alike
 
   abbrev pub step_formula : Truth
-  step_formula = implied (both state_alike shown_alike) (both (all_alike p.registers p.inputs p.next.items) (alike_in p.registers p.inputs (truth p.retire)))
+  step_formula = implied (both state_alike shown_alike) (both (all_alike p.registers p.inputs p.next) (alike_in p.registers p.inputs (truth p.retire)))
 
   abbrev pub imply_formula : Truth
-  imply_formula = implied (both state_alike shown_alike) (all_alike p.registers p.inputs p.attacker.items)
+  imply_formula = implied (both state_alike shown_alike) (all_alike p.registers p.inputs p.attacker)
 
 -- the numbers of all candidates
 abbrev pub all_of : Problem → List ℕ

@@ -1,9 +1,14 @@
 //! A leakage contract verifier for processors.
 #![tactic(auto)]
 
+mod build;
 mod formula;
+mod next;
+mod observed;
+mod prepare;
 mod problem;
 mod queries;
+mod signals;
 mod splitter;
 mod verdict;
 

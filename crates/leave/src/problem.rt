@@ -1,8 +1,9 @@
 //! A one-bit design with its observers, as formulas over its registers and inputs.
 
-ghost use Rattle.std.specs.Prelude.{◌≡◌, ◌≤◌, ◌+◌, ◌*◌, vec_len};
+ghost use Rattle.std.specs.Prelude.{◌≡◌, ◌≤◌, ◌+◌, ◌*◌, length};
 
 use crate::formula::Formula;
+use sqlite_items::Items;
 
 /// Registers are the first variables, inputs the next ones.
 #[derive(Drop)]
@@ -10,12 +11,12 @@ pub(crate) struct Problem {
     pub(crate) registers: usize,
     pub(crate) inputs: usize,
     /// The next value of each register.
-    pub(crate) next: Vec<Formula>,
+    pub(crate) next: Items<Formula>,
     pub(crate) retire: Formula,
-    pub(crate) contract: Vec<Formula>,
-    pub(crate) attacker: Vec<Formula>,
+    pub(crate) contract: Items<Formula>,
+    pub(crate) attacker: Items<Formula>,
     /// The registers that an initial pair shares.
-    pub(crate) equal: Vec<usize>,
+    pub(crate) equal: Items<usize>,
     ghost small: { 2 * registers + 2 * inputs + 1 ≤ 16 },
-    ghost matched: { vec_len next ≡ registers },
+    ghost matched: { length next ≡ registers },
 }

@@ -106,7 +106,7 @@ fn same_shown(alloc: Global, problem: &Problem) -> Result<Formula, NoMemory>
     let left = in_left(alloc, &problem.retire, problem.registers, problem.inputs)?;
     let right = in_right(alloc, &problem.retire, problem.registers, problem.inputs)?;
     let retire = conjunction(alloc, left, right)?;
-    let shown = every_alike(alloc, &problem.contract, problem.registers, problem.inputs)?;
+    let shown = every_alike(alloc, problem.contract.as_slice(), problem.registers, problem.inputs)?;
     let f = implication(alloc, retire, shown)?;
     Ok(f)
 }
@@ -115,7 +115,7 @@ fn same_shown(alloc: Global, problem: &Problem) -> Result<Formula, NoMemory>
 pub(crate) fn base(alloc: Global, problem: &Problem) -> Result<Formula, NoMemory>
     ensures { IfOk result (λ f. truth f ≡ base_formula problem.now) }
 {
-    let equal = those_alike(alloc, &problem.equal, problem.registers, problem.inputs)?;
+    let equal = those_alike(alloc, problem.equal.as_slice(), problem.registers, problem.inputs)?;
     let state = same_state(alloc, problem)?;
     let f = implication(alloc, equal, state)?;
     Ok(f)
@@ -135,7 +135,7 @@ pub(crate) fn step(alloc: Global, problem: &Problem) -> Result<Formula, NoMemory
     ensures { IfOk result (λ f. truth f ≡ step_formula problem.now) }
 {
     let before = before(alloc, problem)?;
-    let next = every_alike(alloc, &problem.next, problem.registers, problem.inputs)?;
+    let next = every_alike(alloc, problem.next.as_slice(), problem.registers, problem.inputs)?;
     let retire = one_alike(alloc, &problem.retire, problem.registers, problem.inputs)?;
     let after = conjunction(alloc, next, retire)?;
     let f = implication(alloc, before, after)?;
@@ -147,7 +147,7 @@ pub(crate) fn imply(alloc: Global, problem: &Problem) -> Result<Formula, NoMemor
     ensures { IfOk result (λ f. truth f ≡ imply_formula problem.now) }
 {
     let before = before(alloc, problem)?;
-    let seen = every_alike(alloc, &problem.attacker, problem.registers, problem.inputs)?;
+    let seen = every_alike(alloc, problem.attacker.as_slice(), problem.registers, problem.inputs)?;
     let f = implication(alloc, before, seen)?;
     Ok(f)
 }

@@ -1,10 +1,16 @@
 //! A leakage contract verifier for processors.
 #![tactic(auto)]
 
+mod design_text;
+mod expressions;
 mod formula;
+mod module_items;
+mod ports;
 mod problem;
 mod queries;
+mod reading;
 mod splitter;
+mod statements;
 mod verdict;
 
 use std::io;

@@ -6,3 +6,4 @@ pub mod Alike
 pub mod Candidates
 pub mod Acceptance
 pub mod Spellings
+pub mod LineFree

@@ -1,3 +1,4 @@
 pub mod Formulas
 pub mod Problems
 pub mod Spelling
+pub mod Texts

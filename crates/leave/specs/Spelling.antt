@@ -1,6 +1,6 @@
 -- How a module is spelled (IEEE 1364-2005, annex A), as far as the first form of designs goes. Each relation is between a tree,
 -- the tokens that begin with its spelling, and the tokens behind it.
-use Rattle.std.specs.Prelude.{◌≡◌, ℕ, ◌+◌, ◌≤◌, List, [], ◌∷◌, ◌++◌, Bool, true, false, Option, Some, None, slice_range, codes}
+use Rattle.std.specs.Prelude.{◌≡◌, ℕ, ◌+◌, ◌≤◌, List, [], ◌∷◌, ◌++◌, true, false, None, slice_range, codes}
 use Rattle.lv_bits.specs.declared.op.Op.{Op}
 use Rattle.lv_bits.specs.declared.op.Op.TheVariants as o
 use Rattle.lv_ast.specs.declared.tokens.Kind.{Kind}

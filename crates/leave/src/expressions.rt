@@ -53,7 +53,12 @@ fn infix(op: Op) -> &'static [u8]
 
 /// A name, an expression in parentheses, or an operand behind `~`.
 #[cycle(expressions)]
-fn operand<'a>(alloc: Global, text: &[u8], tokens: &'a [Token], depth: u32) -> Result<(Expr, &'a [Token]), Unread>
+fn operand<'a>(
+    alloc: Global,
+    text: &[u8],
+    tokens: &'a [Token],
+    depth: u32,
+) -> Result<(Expr, &'a [Token]), Unread>
     ensures spelled { IfOk result (λ r. SpellsExpr text.now 12 r.0 tokens.now r.1.now) }
     ensures shorter { IfOk result (λ r. length r.1.now < length tokens.now) }
 {
@@ -76,7 +81,13 @@ fn operand<'a>(alloc: Global, text: &[u8], tokens: &'a [Token], depth: u32) -> R
 
 /// What may stand on either side of a binary operator.
 #[cycle(expressions)]
-fn side<'a>(alloc: Global, text: &[u8], tokens: &'a [Token], op: Op, depth: u32) -> Result<(Expr, &'a [Token]), Unread>
+fn side<'a>(
+    alloc: Global,
+    text: &[u8],
+    tokens: &'a [Token],
+    op: Op,
+    depth: u32,
+) -> Result<(Expr, &'a [Token]), Unread>
     ensures spelled { IfOk result (λ r. SpellsExpr text.now (level_of op + 1) r.0 tokens.now r.1.now) }
     ensures shorter { IfOk result (λ r. length r.1.now < length tokens.now) }
 {
@@ -92,7 +103,13 @@ fn side<'a>(alloc: Global, text: &[u8], tokens: &'a [Token], op: Op, depth: u32)
 
 /// Expressions with a binary operator between them, which groups from the left.
 #[cycle(expressions)]
-fn binary<'a>(alloc: Global, text: &[u8], tokens: &'a [Token], op: Op, depth: u32) -> Result<(Expr, &'a [Token]), Unread>
+fn binary<'a>(
+    alloc: Global,
+    text: &[u8],
+    tokens: &'a [Token],
+    op: Op,
+    depth: u32,
+) -> Result<(Expr, &'a [Token]), Unread>
     requires { 2 ≤ level_of op }
     ensures spelled { IfOk result (λ r. SpellsExpr text.now (level_of op) r.0 tokens.now r.1.now) }
     ensures shorter { IfOk result (λ r. length r.1.now < length tokens.now) }
@@ -107,7 +124,11 @@ fn binary<'a>(alloc: Global, text: &[u8], tokens: &'a [Token], op: Op, depth: u3
 }
 
 /// An expression, and what follows it. Operands nest at most 200 deep.
-pub(crate) fn expression<'a>(alloc: Global, text: &[u8], tokens: &'a [Token]) -> Result<(Expr, &'a [Token]), Unread>
+pub(crate) fn expression<'a>(
+    alloc: Global,
+    text: &[u8],
+    tokens: &'a [Token],
+) -> Result<(Expr, &'a [Token]), Unread>
     ensures spelled { IfOk result (λ r. SpellsExpr text.now 1 r.0 tokens.now r.1.now) }
     ensures shorter { IfOk result (λ r. length r.1.now < length tokens.now) }
 {

@@ -2,8 +2,10 @@
 #![tactic(auto)]
 
 mod design_text;
+mod expression_text;
 mod expressions;
 mod formula;
+mod lines;
 mod module_items;
 mod ports;
 mod problem;
@@ -11,6 +13,8 @@ mod queries;
 mod reading;
 mod splitter;
 mod statements;
+#[cfg(test)]
+mod tests;
 mod verdict;
 
 use std::io;

@@ -9,7 +9,11 @@ use lv_ast::{Ident, Item, RegName, Token, Watch};
 use sqlite_items::Items;
 use std::alloc::Global;
 
-fn reg_name<'a>(alloc: Global, text: &[u8], tokens: &'a [Token]) -> Result<(RegName, &'a [Token]), Unread>
+fn reg_name<'a>(
+    alloc: Global,
+    text: &[u8],
+    tokens: &'a [Token],
+) -> Result<(RegName, &'a [Token]), Unread>
     ensures spelled { IfOk result (λ r. SpellsRegName text.now r.0 tokens.now r.1.now) }
     ensures shorter { IfOk result (λ r. length r.1.now < length tokens.now) }
 {
@@ -17,7 +21,11 @@ fn reg_name<'a>(alloc: Global, text: &[u8], tokens: &'a [Token]) -> Result<(RegN
     Ok((RegName { name, bounds: None }, rest))
 }
 
-fn reg_names<'a>(alloc: Global, text: &[u8], tokens: &'a [Token]) -> Result<(Items<RegName>, &'a [Token]), Unread>
+fn reg_names<'a>(
+    alloc: Global,
+    text: &[u8],
+    tokens: &'a [Token],
+) -> Result<(Items<RegName>, &'a [Token]), Unread>
     ensures spelled { IfOk result (λ r. SpellsRegNames text.now r.0 tokens.now r.1.now) }
     ensures shorter { IfOk result (λ r. length r.1.now < length tokens.now) }
 {
@@ -42,7 +50,11 @@ fn regs<'a>(alloc: Global, text: &[u8], tokens: &'a [Token]) -> Result<(Item, &'
     Ok((Item::Reg(false, None, list), rest))
 }
 
-fn posedge<'a>(alloc: Global, text: &[u8], tokens: &'a [Token]) -> Result<(Ident, &'a [Token]), Unread>
+fn posedge<'a>(
+    alloc: Global,
+    text: &[u8],
+    tokens: &'a [Token],
+) -> Result<(Ident, &'a [Token]), Unread>
     ensures spelled { IfOk result (λ r. SpellsPosedge text.now r.0 tokens.now r.1.now) }
     ensures shorter { IfOk result (λ r. length r.1.now < length tokens.now) }
 {
@@ -54,14 +66,21 @@ fn posedge<'a>(alloc: Global, text: &[u8], tokens: &'a [Token]) -> Result<(Ident
     Ok((name, rest))
 }
 
-fn always<'a>(alloc: Global, text: &[u8], tokens: &'a [Token]) -> Result<(Item, &'a [Token]), Unread>
+fn always<'a>(
+    alloc: Global,
+    text: &[u8],
+    tokens: &'a [Token],
+) -> Result<(Item, &'a [Token]), Unread>
     ensures spelled { IfOk result (λ r. SpellsItem text.now r.0 tokens.now r.1.now) }
     ensures shorter { IfOk result (λ r. length r.1.now < length tokens.now) }
 {
     let event = word(text, tokens, b"always")?;
     let (clock, body) = posedge(alloc, text, event)?;
     let (x, rest) = statement(alloc, text, body)?;
-    Ok((Item::Always(Watch::Posedge(clock), x, place_of(tokens)), rest))
+    Ok((
+        Item::Always(Watch::Posedge(clock), x, place_of(tokens)),
+        rest,
+    ))
 }
 
 fn item<'a>(alloc: Global, text: &[u8], tokens: &'a [Token]) -> Result<(Item, &'a [Token]), Unread>
@@ -76,7 +95,11 @@ fn item<'a>(alloc: Global, text: &[u8], tokens: &'a [Token]) -> Result<(Item, &'
 }
 
 /// The items up to `endmodule`.
-pub(crate) fn items<'a>(alloc: Global, text: &[u8], tokens: &'a [Token]) -> Result<(Items<Item>, &'a [Token]), Unread>
+pub(crate) fn items<'a>(
+    alloc: Global,
+    text: &[u8],
+    tokens: &'a [Token],
+) -> Result<(Items<Item>, &'a [Token]), Unread>
     ensures { IfOk result (λ r. SpellsItems text.now r.0 tokens.now r.1.now) }
 {
     let mut list = Items::new(alloc);

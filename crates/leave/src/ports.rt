@@ -8,7 +8,11 @@ use lv_ast::{Aport, PortWord, Token};
 use sqlite_items::Items;
 use std::alloc::Global;
 
-fn inputs<'a>(alloc: Global, text: &[u8], tokens: &'a [Token]) -> Result<(Aport, &'a [Token]), Unread>
+fn inputs<'a>(
+    alloc: Global,
+    text: &[u8],
+    tokens: &'a [Token],
+) -> Result<(Aport, &'a [Token]), Unread>
     ensures spelled { IfOk result (λ r. SpellsAport text.now r.0 tokens.now r.1.now) }
     ensures shorter { IfOk result (λ r. length r.1.now < length tokens.now) }
 {
@@ -24,7 +28,11 @@ fn inputs<'a>(alloc: Global, text: &[u8], tokens: &'a [Token]) -> Result<(Aport,
     Ok((port, rest))
 }
 
-fn output_regs<'a>(alloc: Global, text: &[u8], tokens: &'a [Token]) -> Result<(Aport, &'a [Token]), Unread>
+fn output_regs<'a>(
+    alloc: Global,
+    text: &[u8],
+    tokens: &'a [Token],
+) -> Result<(Aport, &'a [Token]), Unread>
     ensures spelled { IfOk result (λ r. SpellsAport text.now r.0 tokens.now r.1.now) }
     ensures shorter { IfOk result (λ r. length r.1.now < length tokens.now) }
 {
@@ -41,7 +49,11 @@ fn output_regs<'a>(alloc: Global, text: &[u8], tokens: &'a [Token]) -> Result<(A
     Ok((port, rest))
 }
 
-fn aport<'a>(alloc: Global, text: &[u8], tokens: &'a [Token]) -> Result<(Aport, &'a [Token]), Unread>
+fn aport<'a>(
+    alloc: Global,
+    text: &[u8],
+    tokens: &'a [Token],
+) -> Result<(Aport, &'a [Token]), Unread>
     ensures spelled { IfOk result (λ r. SpellsAport text.now r.0 tokens.now r.1.now) }
     ensures shorter { IfOk result (λ r. length r.1.now < length tokens.now) }
 {
@@ -52,7 +64,11 @@ fn aport<'a>(alloc: Global, text: &[u8], tokens: &'a [Token]) -> Result<(Aport, 
     }
 }
 
-fn aports<'a>(alloc: Global, text: &[u8], tokens: &'a [Token]) -> Result<(Items<Aport>, &'a [Token]), Unread>
+fn aports<'a>(
+    alloc: Global,
+    text: &[u8],
+    tokens: &'a [Token],
+) -> Result<(Items<Aport>, &'a [Token]), Unread>
     ensures { IfOk result (λ r. SpellsAports text.now r.0 tokens.now r.1.now) }
 {
     let (first, mut rest) = aport(alloc, text, tokens)?;
@@ -67,7 +83,11 @@ fn aports<'a>(alloc: Global, text: &[u8], tokens: &'a [Token]) -> Result<(Items<
 }
 
 /// The ports in parentheses, with the semicolon behind them.
-pub(crate) fn ports<'a>(alloc: Global, text: &[u8], tokens: &'a [Token]) -> Result<(Items<Aport>, &'a [Token]), Unread>
+pub(crate) fn ports<'a>(
+    alloc: Global,
+    text: &[u8],
+    tokens: &'a [Token],
+) -> Result<(Items<Aport>, &'a [Token]), Unread>
     ensures { IfOk result (λ r. SpellsPorts text.now r.0 tokens.now r.1.now) }
 {
     let inner = mark(text, tokens, b"(")?;

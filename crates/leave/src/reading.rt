@@ -38,7 +38,7 @@ pub(crate) fn bytes_of(text: &[u8], token: Token) -> &[u8]
 }
 
 /// The first token and those behind it.
-fn split(tokens: &[Token]) -> Option<(Token, &[Token])>
+pub(crate) fn split(tokens: &[Token]) -> Option<(Token, &[Token])>
     ensures { MatchOption result (tokens.now ≡ []) (λ parts. tokens.now ≡ parts.0 ∷ parts.1.now) }
 {
     if tokens.is_empty() {
@@ -48,7 +48,12 @@ fn split(tokens: &[Token]) -> Option<(Token, &[Token])>
 }
 
 /// What follows the first token, where it is of this kind and of these bytes.
-fn after<'a>(text: &[u8], tokens: &'a [Token], kind: Kind, bytes: &[u8]) -> Result<&'a [Token], Unread>
+fn after<'a>(
+    text: &[u8],
+    tokens: &'a [Token],
+    kind: Kind,
+    bytes: &[u8],
+) -> Result<&'a [Token], Unread>
     ensures spelled { IfOk result (λ rest. SpellsToken text.now kind bytes.now tokens.now rest.now) }
     ensures shorter { IfOk result (λ rest. length rest.now < length tokens.now) }
 {
@@ -61,14 +66,22 @@ fn after<'a>(text: &[u8], tokens: &'a [Token], kind: Kind, bytes: &[u8]) -> Resu
     Ok(rest)
 }
 
-pub(crate) fn mark<'a>(text: &[u8], tokens: &'a [Token], bytes: &[u8]) -> Result<&'a [Token], Unread>
+pub(crate) fn mark<'a>(
+    text: &[u8],
+    tokens: &'a [Token],
+    bytes: &[u8],
+) -> Result<&'a [Token], Unread>
     ensures spelled { IfOk result (λ rest. SpellsMark text.now bytes.now tokens.now rest.now) }
     ensures shorter { IfOk result (λ rest. length rest.now < length tokens.now) }
 {
     after(text, tokens, Kind::Mark, bytes)
 }
 
-pub(crate) fn word<'a>(text: &[u8], tokens: &'a [Token], bytes: &[u8]) -> Result<&'a [Token], Unread>
+pub(crate) fn word<'a>(
+    text: &[u8],
+    tokens: &'a [Token],
+    bytes: &[u8],
+) -> Result<&'a [Token], Unread>
     ensures spelled { IfOk result (λ rest. SpellsWord text.now bytes.now tokens.now rest.now) }
     ensures shorter { IfOk result (λ rest. length rest.now < length tokens.now) }
 {
@@ -76,7 +89,11 @@ pub(crate) fn word<'a>(text: &[u8], tokens: &'a [Token], bytes: &[u8]) -> Result
 }
 
 /// A name, and what follows it.
-pub(crate) fn ident<'a>(alloc: Global, text: &[u8], tokens: &'a [Token]) -> Result<(Ident, &'a [Token]), Unread>
+pub(crate) fn ident<'a>(
+    alloc: Global,
+    text: &[u8],
+    tokens: &'a [Token],
+) -> Result<(Ident, &'a [Token]), Unread>
     ensures spelled { IfOk result (λ r. SpellsIdent text.now r.0 tokens.now r.1.now) }
     ensures shorter { IfOk result (λ r. length r.1.now < length tokens.now) }
 {
@@ -109,7 +126,11 @@ pub(crate) fn begins_with_name(tokens: &[Token]) -> bool {
 }
 
 /// Names with commas between them, as many as there are.
-pub(crate) fn idents<'a>(alloc: Global, text: &[u8], tokens: &'a [Token]) -> Result<(Items<Ident>, &'a [Token]), Unread>
+pub(crate) fn idents<'a>(
+    alloc: Global,
+    text: &[u8],
+    tokens: &'a [Token],
+) -> Result<(Items<Ident>, &'a [Token]), Unread>
     ensures spelled { IfOk result (λ r. SpellsIdents text.now r.0 tokens.now r.1.now) }
     ensures shorter { IfOk result (λ r. length r.1.now < length tokens.now) }
 {

@@ -9,7 +9,11 @@ use lv_ast::{Stmt, Target, Token};
 use sqlite_items::Items;
 use std::alloc::Global;
 
-fn target<'a>(alloc: Global, text: &[u8], tokens: &'a [Token]) -> Result<(Target, &'a [Token]), Unread>
+fn target<'a>(
+    alloc: Global,
+    text: &[u8],
+    tokens: &'a [Token],
+) -> Result<(Target, &'a [Token]), Unread>
     ensures spelled { IfOk result (λ r. SpellsTarget text.now r.0 tokens.now r.1.now) }
     ensures shorter { IfOk result (λ r. length r.1.now < length tokens.now) }
 {
@@ -30,7 +34,11 @@ fn later<'a>(alloc: Global, text: &[u8], tokens: &'a [Token]) -> Result<(Stmt, &
 }
 
 /// As many as there are.
-fn laters<'a>(alloc: Global, text: &[u8], tokens: &'a [Token]) -> Result<(Items<Stmt>, &'a [Token]), Unread>
+fn laters<'a>(
+    alloc: Global,
+    text: &[u8],
+    tokens: &'a [Token],
+) -> Result<(Items<Stmt>, &'a [Token]), Unread>
     ensures spelled { IfOk result (λ r. SpellsStmts text.now r.0 tokens.now r.1.now) }
     ensures shorter { IfOk result (λ r. length r.1.now ≤ length tokens.now) }
 {
@@ -55,7 +63,11 @@ fn block<'a>(alloc: Global, text: &[u8], tokens: &'a [Token]) -> Result<(Stmt, &
 }
 
 /// A nonblocking assignment to a name, or a block of such.
-pub(crate) fn statement<'a>(alloc: Global, text: &[u8], tokens: &'a [Token]) -> Result<(Stmt, &'a [Token]), Unread>
+pub(crate) fn statement<'a>(
+    alloc: Global,
+    text: &[u8],
+    tokens: &'a [Token],
+) -> Result<(Stmt, &'a [Token]), Unread>
     ensures spelled { IfOk result (λ r. SpellsStmt text.now r.0 tokens.now r.1.now) }
     ensures shorter { IfOk result (λ r. length r.1.now < length tokens.now) }
 {

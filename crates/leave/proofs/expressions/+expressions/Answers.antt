@@ -7,9 +7,10 @@ pub binary-loop-more-init : goal.binary-loop-more-init
 binary-loop-more-init t c = (tighter (omega arith) c.in_ok-left.ensures.spelled, c.in_ok-left.ensures.shorter)
 
 pub binary-loop-more-preserved : goal.binary-loop-more-preserved
-binary-loop-more-preserved t c =
-    (binary_at c.in_ok-left-2.ensures c.infix.ensures c.requires c.loop-more.invariant.0 c.in-Ok.ensures.spelled c.in_ok-right.ensures.spelled,
-      omega (arith, c.loop-more.invariant.1, c.in-Ok.ensures.shorter, c.in_ok-right.ensures.shorter))
+binary-loop-more-preserved t c = (
+  binary_at c.in_ok-left-2.ensures c.infix.ensures c.requires c.loop-more.invariant.0 c.in-Ok.ensures.spelled c.in_ok-right.ensures.spelled,
+  omega (arith, c.loop-more.invariant.1, c.in-Ok.ensures.shorter, c.in_ok-right.ensures.shorter),
+)
 
 pub operand-returns-in-Ok-clause-spelled : goal.operand-returns-in-Ok-clause-spelled
 operand-returns-in-Ok-clause-spelled t c =

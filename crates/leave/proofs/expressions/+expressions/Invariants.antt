@@ -1,4 +1,4 @@
-use Rattle.std.proofs.Common.{ℕ, ◌+◌, ◌*◌, ◌<◌, ◌≤◌, length}
+use Rattle.std.proofs.Common.{ℕ, ◌+◌, ◌*◌, ◌<◌, length}
 use Rattle.lv_bits.specs.declared.op.Op.{Op}
 use Rattle.lv_bits.specs.declared.op.Op.TheVariants as o
 use Rattle.leave.specs.Spelling.{SpellsExpr, level_of}

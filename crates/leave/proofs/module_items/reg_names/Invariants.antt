@@ -1,4 +1,4 @@
-use Rattle.std.proofs.Common.{ℕ, ◌<◌, length}
+use Rattle.std.proofs.Common.{◌<◌, length}
 use Rattle.leave.specs.Spelling.{SpellsRegNames}
 use Rattle.leave.proofs.module_items.reg_names.Given as goal
 

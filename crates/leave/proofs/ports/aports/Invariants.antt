@@ -1,4 +1,4 @@
-use Rattle.std.proofs.Common.{ℕ, length}
+use Rattle.std.proofs.Common.{length}
 use Rattle.leave.specs.Spelling.{SpellsAports}
 use Rattle.leave.proofs.ports.aports.Given as goal
 

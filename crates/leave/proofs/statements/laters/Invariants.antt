@@ -1,4 +1,4 @@
-use Rattle.std.proofs.Common.{ℕ, ◌≤◌, length}
+use Rattle.std.proofs.Common.{◌≤◌, length}
 use Rattle.leave.specs.Spelling.{SpellsStmts}
 use Rattle.leave.proofs.statements.laters.Given as goal
 

@@ -14,3 +14,5 @@ pub mod Assigns
 pub mod Items
 pub mod Gathers
 pub mod Prepared
+pub mod Spellings
+pub mod LineFree

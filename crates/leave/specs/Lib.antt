@@ -2,3 +2,5 @@ pub mod Formulas
 pub mod Problems
 pub mod FirstForm
 pub mod Signals
+pub mod Spelling
+pub mod Texts

@@ -9,7 +9,17 @@ mod prepare;
 mod problem;
 mod queries;
 mod signals;
+mod design_text;
+mod expression_text;
+mod expressions;
+mod lines;
+mod module_items;
+mod ports;
+mod reading;
 mod splitter;
+mod statements;
+#[cfg(test)]
+mod tests;
 mod verdict;
 
 use std::io;

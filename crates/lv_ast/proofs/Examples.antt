@@ -1,13 +1,11 @@
 -- Worked values, computed from the definitions.
 use Rattle.std.proofs.Common.{◌≡◌, ℕ, Bool, true, false, [], ◌∷◌, Some, refl}
 use Rattle.lv_bits.specs.declared.op.Op.TheVariants as o
-use Rattle.lv_ast.specs.declared.tokens.Kind.TheVariants as k
 use Rattle.std.specs.Prelude.{codes}
 use Rattle.lv_ast.specs.declared.expr.Expr.{Expr}
 use Rattle.lv_ast.specs.declared.expr.Expr.TheVariants as e
 use Rattle.lv_ast.specs.Names.{Names, Valuation}
 use Rattle.lv_ast.specs.Meaning.{own_width, own_signed, value_of, own}
-use Rattle.lv_ast.specs.Tokens.{is_token, based_value, based_free}
 use Rattle.lv_ast.specs.Sources.{source_text}
 use Rattle.lv_ast.specs.Meaning.{read_expr}
 use Rattle.lv_ast.proofs.Build.{bin, un, cat, div, rem, cast}
@@ -69,37 +67,7 @@ module _ (names : Names) (v : Valuation) where
   unfolding read_expr
   sign_of_cast = refl
 
--- ---- tokens and texts
-
-pub names_end : is_token k.Name (codes "end") ≡ false
-names_end = refl
-
-pub words_end : is_token k.Word (codes "end") ≡ true
-words_end = refl
-
-pub system_signed : is_token k.System (codes "$signed") ≡ true
-system_signed = refl
-
-pub based_with_blanks : is_token k.Based (codes "'h ff") ≡ true
-based_with_blanks = refl
-
-pub based_by_line : is_token k.Based (39 ∷ 104 ∷ 10 ∷ 102 ∷ []) ≡ false
-based_by_line = refl
-
-pub based_decimal_free : is_token k.Based (codes "'d?") ≡ false
-based_decimal_free = refl
-
-pub based_free_bits : based_free (codes "'b1?z0") ≡ 6
-based_free_bits = refl
-
-pub based_known_bits : based_value (codes "'b1?z0") ≡ 8
-based_known_bits = refl
-
-pub too_long : is_token k.Based (codes "'h1_0000_0000_0000_0000_0000_0000_0000_0000") ≡ false
-too_long = refl
-
-pub long_enough : is_token k.Based (codes "'hffff_ffff_ffff_ffff_ffff_ffff_ffff_ffff") ≡ true
-long_enough = refl
+-- ---- texts
 
 pub two_files : source_text (codes "a" ∷ codes "b" ∷ []) ≡ 97 ∷ 10 ∷ 98 ∷ []
 two_files = refl

@@ -1,3 +1,6 @@
+ghost use Rattle.std.specs.Prelude.{IsTrue};
+ghost use Rattle.lv_ast.specs.TokenLists.{are_tokens};
+
 use lv_bits::Text;
 use sqlite_items::Items;
 
@@ -34,9 +37,11 @@ pub struct Token {
     pub end: u64,
 }
 
-/// Tokens over a text.
+/// Tokens over a text. Each is a slice of the text that is one whole token of its kind, and each literal among them
+/// has no significant and no written free bit above bit 127.
 #[derive(Debug, Drop)]
 pub struct Tokens {
     pub list: Items<Token>,
     pub text: Text,
+    ghost whole: { IsTrue (are_tokens text list) },
 }

@@ -1,0 +1,9 @@
+pub mod Backslash
+pub mod Comments
+pub mod Fronts
+pub mod Leads
+pub mod Literals
+pub mod Longest
+pub mod Marks
+pub mod Stands
+pub mod Unique

@@ -5,3 +5,4 @@ pub mod Pairs
 pub mod Alike
 pub mod Candidates
 pub mod Acceptance
+pub mod ContractTexts

@@ -1,2 +1,3 @@
+pub mod ContractFile
 pub mod Formulas
 pub mod Problems

@@ -1,6 +1,7 @@
 //! A leakage contract verifier for processors.
 #![tactic(auto)]
 
+mod contract_file;
 mod formula;
 mod problem;
 mod queries;

@@ -1,5 +1,5 @@
 -- The contract file: a TOML document with certain keys, each of a kind and in a range, and no other key.
-use Rattle.std.specs.Prelude.{◌≡◌, ℕ, ℤ, pos, Bool, true, false, ◌&&◌, ◌==◌, List, [], ◌∷◌, length, slice_get, codes, nat_le, Option, Some, None, option_and_then, option_map, if◌then◌else◌, IsUtf8, IsSomeAnd}
+use Rattle.std.specs.Prelude.{◌≡◌, ℕ, ℤ, pos, Bool, true, ◌&&◌, ◌==◌, List, [], ◌∷◌, length, slice_get, codes, nat_le, Option, Some, None, option_and_then, option_map, if◌then◌else◌, IsUtf8, IsSomeAnd}
 use Rattle.std.specs.List.{list_all, list_any}
 use Rattle.std.specs.Str.{bytes_eq}
 use Rattle.toml.specs.Data.{Data, Items, no_items, item, Members, no_members, member, get_member, as_str, as_integer, as_bool, as_array, as_table}

@@ -100,7 +100,10 @@ fn reads_every_key_and_no_other(rt: HostRuntime) -> Result<(), Fail> {
         let new = new.replace(alloc, ";", "\n")?;
         let text = sample().replace(alloc, old.as_str(), new.as_str())?;
         assert!(rt; text.as_str() != sample(), "{row}");
-        assert!(rt; is_read(alloc, text.as_str())? == (verdict == "accepted"), "{row}");
+        assert!(rt;
+            is_read(alloc, text.as_str())? == (verdict == "accepted"),
+            "{row}"
+        );
     }
     for (count, accepted) in [(1024, true), (1025, false)] {
         let entries = "\"c\",".repeat(alloc, count)?;

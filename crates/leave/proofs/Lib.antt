@@ -16,3 +16,4 @@ pub mod Gathers
 pub mod Prepared
 pub mod Spellings
 pub mod LineFree
+pub mod ContractTexts

@@ -1,3 +1,4 @@
+pub mod ContractFile
 pub mod Formulas
 pub mod Problems
 pub mod FirstForm

@@ -2,6 +2,7 @@
 #![tactic(auto)]
 
 mod build;
+mod contract_file;
 mod formula;
 mod next;
 mod observed;

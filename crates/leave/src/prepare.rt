@@ -226,21 +226,21 @@ fn build(
 
 fn with_ports(
     alloc: Global,
-    module: &Module,
+    design: &Module,
     ports: &[Aport],
     clock: &Text,
     trees: &ObserverTrees,
 ) -> Result<Option<Prepared>, NoMemory>
-    ensures { IfOk result (λ o. IfSome o (λ p. (top : List ℕ) → module.now.name.name ≡ top → module.now.params ≡ [] → module.now.ports ≡ Ports.Declared ports.now →
-        IsPrepared module.now top clock.now trees.now p.signals.registers p.problem)) }
+    ensures { IfOk result (λ o. IfSome o (λ p. (top : List ℕ) → design.now.name.name ≡ top → design.now.params ≡ [] → design.now.ports ≡ Ports.Declared ports.now →
+        IsPrepared design.now top clock.now trees.now p.signals.registers p.problem)) }
 {
     if !are_one_bit(ports) {
         return Ok(None);
     }
-    let Some(signals) = collect(alloc, ports, module.items.as_slice(), clock)? else {
+    let Some(signals) = collect(alloc, ports, design.items.as_slice(), clock)? else {
         return Ok(None);
     };
-    let Some(problem) = build(alloc, &signals, clock, module.items.as_slice(), trees)? else {
+    let Some(problem) = build(alloc, &signals, clock, design.items.as_slice(), trees)? else {
         return Ok(None);
     };
     Ok(Some(Prepared { problem, signals }))
@@ -249,18 +249,18 @@ fn with_ports(
 /// What is decided of a module with its observers, where both are of this form.
 pub(crate) fn prepare(
     alloc: Global,
-    module: &Module,
+    design: &Module,
     top: &Text,
     clock: &Text,
     trees: &ObserverTrees,
 ) -> Result<Option<Prepared>, NoMemory>
-    ensures { IfOk result (λ o. IfSome o (λ p. IsPrepared module.now top.now clock.now trees.now p.signals.registers p.problem)) }
+    ensures { IfOk result (λ o. IfSome o (λ p. IsPrepared design.now top.now clock.now trees.now p.signals.registers p.problem)) }
 {
-    if module.name.name != *top || !module.params.is_empty() {
+    if design.name.name != *top || !design.params.is_empty() {
         return Ok(None);
     }
-    match &module.ports {
-        Ports::Declared(ports) => with_ports(alloc, module, ports.as_slice(), clock, trees),
+    match &design.ports {
+        Ports::Declared(ports) => with_ports(alloc, design, ports.as_slice(), clock, trees),
         _ => Ok(None),
     }
 }

@@ -8,7 +8,7 @@ use Rattle.leave.proofs.prepare.with_ports.Goals as goal
 
 pub returns : goal.returns
 returns c = λ top called no_params declared.
-    let m = c.args.module.now in
+    let m = c.args.design.now in
     let clock = c.args.clock.now in
     let Rs = c.in-Some.signals.registers in
     let Is = c.in-Some.signals.inputs in

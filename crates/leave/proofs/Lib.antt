@@ -14,6 +14,8 @@ pub mod Assigns
 pub mod Items
 pub mod Gathers
 pub mod Prepared
+pub mod Verdicts
+pub mod Answering
 pub mod Spellings
 pub mod LineFree
 pub mod ContractTexts

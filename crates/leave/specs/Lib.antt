@@ -5,3 +5,4 @@ pub mod FirstForm
 pub mod Signals
 pub mod Spelling
 pub mod Texts
+pub mod Answers

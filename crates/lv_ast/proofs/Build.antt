@@ -97,6 +97,9 @@ bit x = s.Bit' tt (one x)
 abbrev pub slice : Expr → Expr → Select
 slice a b = s.Part' tt (one a) tt (one b)
 
+abbrev pub down : Expr → Expr → Select
+down a b = s.Down' tt (one a) tt (one b)
+
 -- ---- statements and items
 
 abbrev pub to : List ℕ → Target

@@ -12,8 +12,8 @@ use Rattle.lv_ast.specs.declared.stmt.Stmt.{Stmt}
 use Rattle.lv_ast.specs.declared.stmt.Stmt.TheOpen.{Stmt-F, Arm-F}
 use Rattle.lv_ast.specs.Values.{Meaning, size_of, nowhere}
 use Rattle.lv_ast.specs.Trees.{fold_target, fold_stmt}
-use Rattle.lv_ast.specs.Names.{Name, Names, Declared, Valuation, Constant, with_name, known}
-use Rattle.lv_ast.specs.Places.{Place, place_of, write}
+use Rattle.lv_ast.specs.Names.{Name, Names, Declared, Valuation, Constant, with_name, known, is_signal_sort}
+use Rattle.lv_ast.specs.Places.{Place, place_of, nowhere_place, write}
 use Rattle.lv_ast.specs.Meaning.{Choice, meant, read_select, meaning, own, constant_value}
 
 -- a name in a target, with its selects
@@ -43,8 +43,12 @@ piece_step names (Target-F.Cat parts) = flat_map (λ ps. ps) parts
 unfoldable pub pieces : Names → Target → List Piece
 pieces names t = fold_target (List Piece) (piece_step names) t
 
+-- a name that is no signal is written nowhere
+abbrev pub aimed : Bool → Place → Place
+aimed signal p = if signal then p else nowhere_place p.bits
+
 abbrev pub piece_place : Valuation → Piece → Place
-piece_place v p = place_of (known p.declared) (map meant p.choices) v
+piece_place v p = aimed (is_signal_sort (known p.declared).sort) (place_of (known p.declared) (map meant p.choices) v)
 
 abbrev pub places : Valuation → List Piece → List Place
 places v ps = map (piece_place v) ps

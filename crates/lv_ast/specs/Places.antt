@@ -3,7 +3,7 @@ use Rattle.std.specs.Prelude.{ℕ, zero, suc, ◌+◌, ◌-◌, ◌*◌, ◌/◌
 use Rattle.std.specs.List.{list_any, flat_map, range_with_len}
 use Rattle.lv_ast.specs.declared.expr.Expr.TheOpen.{Select-F}
 use Rattle.lv_ast.specs.Values.{Chosen, own_value, number_of, nowhere}
-use Rattle.lv_ast.specs.Names.{Name, Bounds, Declared, Valuation, Sort, Constant, low, high, size, width_of, at_index}
+use Rattle.lv_ast.specs.Names.{Name, Bounds, Declared, Valuation, Sort, Input, Net, Variable, Constant, low, high, size, width_of, at_index}
 
 -- one bit of a value
 pub record Bit : Type 0 where
@@ -82,10 +82,13 @@ bit_selects None ss = ss
 bit_selects (Some b) [] = []
 bit_selects (Some b) (s ∷ ss) = ss
 
--- a constant has its value everywhere
+-- a constant has its value everywhere; a name that is no signal reads 0
 abbrev pub held : Sort → Valuation → Valuation
 held (Constant x) v name = x
-held _ v name = v name
+held Input v name = v name
+held Net v name = v name
+held Variable v name = v name
+held _ v name = 0
 
 -- ---- reading and writing
 

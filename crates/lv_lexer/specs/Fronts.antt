@@ -1,5 +1,5 @@
 -- The longest fronts of a text that pass a test.
-use Rattle.std.specs.Prelude.{◌≡◌, ℕ, suc, ◌<◌, ◌≤◌, Bool, true, false, not, ◌&&◌, nat_le, if◌then◌else◌, ◌==◌, List, [], ◌∷◌, length, take, bytes_eq, Option, Some, None, MatchOption}
+use Rattle.std.specs.Prelude.{◌≡◌, ℕ, suc, ◌<◌, ◌≤◌, Bool, true, false, not, ◌&&◌, nat_le, if◌then◌else◌, ◌==◌, List, [], ◌∷◌, length, take, bytes_eq, codes, Option, Some, None, MatchOption}
 use Rattle.std.specs.List.{list_any}
 use Rattle.std.specs.Borrow.{Bor}
 use Rattle.lv_ast.specs.Names.{is_inner, is_letter, is_keyword}
@@ -56,6 +56,10 @@ IsFound kind s result = MatchOption result ((m : ℕ) → kind (take m s) ≡ No
 -- whether n bytes stand at the front, and are a mark
 abbrev pub mark_front : List ℕ → ℕ → Bool
 mark_front s n = nat_le n (length s) && is_mark (take n s)
+
+-- the bytes that begin a mark of two or three bytes
+abbrev pub is_head : ℕ → Bool
+is_head c = list_any (λ h. h == c) (codes "<>=!&|~^+-")
 
 -- the longest name or keyword at the front
 pub record IsNamed (s : List ℕ) (k : Kind) (n : ℕ) : Type 0 where

@@ -9,7 +9,7 @@ use crate::bytes::{
     lead_of, prefix, skip, split,
 };
 use crate::literal::fits;
-use crate::words::{is_keyword, is_mark};
+use crate::words::{is_head, is_keyword, is_mark};
 use lv_ast::Kind;
 
 /// What begins at the front of a text, as far as comments go.
@@ -148,11 +148,28 @@ fn is_mark_front(rest: &[u8], n: usize) -> bool
     n <= rest.len() && is_mark(&rest[..n])
 }
 
+// The same for a mark of more than one byte, which few bytes begin.
+fn is_long_mark(rest: &[u8], n: usize) -> bool
+    requires { 1 < n }
+    ensures { result ≡ mark_front rest.now n }
+{
+    match split(rest) {
+        Some((first, _)) => {
+            if is_head(first) {
+                is_mark_front(rest, n)
+            } else {
+                false
+            }
+        }
+        None => false,
+    }
+}
+
 fn mark(rest: &[u8]) -> Option<usize>
     ensures { IsFront tokens.is_mark rest.now result }
 {
-    let three = is_mark_front(rest, 3);
-    let two = is_mark_front(rest, 2);
+    let three = is_long_mark(rest, 3);
+    let two = is_long_mark(rest, 2);
     let one = is_mark_front(rest, 1);
     if three {
         Some(3)

@@ -147,7 +147,7 @@ fn refuses_texts(rt: HostRuntime) -> Result<(), Fail> {
         b"'o?000000000000000000000000000000000000000000",
         LexError::BadLiteral(0),
     );
-    let Ok(many) = vec![in alloc; b';'; 500_001] else {
+    let Ok(many) = vec![in alloc; b'\n'; 500_001] else {
         return Err(Fail::from("no memory"));
     };
     refuses(&rt, alloc, &many, LexError::TooMany(500_001));

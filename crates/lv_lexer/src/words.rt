@@ -1,7 +1,7 @@
 ghost use Rattle.std.specs.Prelude.{◌≡◌};
 ghost use Rattle.lv_ast.specs.Names as names;
 ghost use Rattle.lv_ast.specs.Tokens as tokens;
-ghost use Rattle.lv_lexer.specs.Fronts.{is_among};
+ghost use Rattle.lv_lexer.specs.Fronts.{is_among, is_head};
 
 /// The reserved words of the profile (IEEE 1364-2005, annex B).
 const KEYWORDS: [&[u8]; 124] = [
@@ -137,6 +137,9 @@ const MARKS: [&[u8]; 42] = [
     b"||", b"<<", b">>", b"<<<", b">>>", b"~&", b"~|", b"~^", b"^~", b"+:", b"-:",
 ];
 
+/// The first bytes of the marks of two and three bytes.
+const HEADS: [u8; 10] = *b"<>=!&|~^+-";
+
 fn is_in(words: &[&[u8]], name: &[u8]) -> bool
     ensures { result ≡ is_among words.now name.now }
 {
@@ -153,4 +156,11 @@ pub fn is_mark(bytes: &[u8]) -> bool
     ensures { result ≡ tokens.is_mark bytes.now }
 {
     is_in(&MARKS, bytes)
+}
+
+/// Whether a mark of more than one byte may begin with this one.
+pub fn is_head(byte: u8) -> bool
+    ensures { result ≡ is_head byte }
+{
+    HEADS.iter().any(|head| *head == byte)
 }

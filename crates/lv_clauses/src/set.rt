@@ -1,0 +1,77 @@
+ghost use Rattle.std.specs.Prelude.{◌≡◌, ◌≤◌, [], length, Some, OnErr, IfOk};
+ghost use Rattle.lv_clauses.specs.Literals.{IsClause, IsWithin};
+ghost use Rattle.lv_clauses.specs.Sets.{numbered};
+ghost use Rattle.lv_clauses.specs.Added.{IsAdded};
+
+use crate::clause::{Added, Clause};
+use crate::lit::Lit;
+use lv_bits::NoMemory;
+use std::alloc::Global;
+use std::marker::Model;
+
+/// Clauses, numbered from 1, over the variables from 1 to `vars`.
+#[derive(Drop)]
+pub struct ClauseSet {
+    vars: u64,
+    clauses: Vec<Clause>,
+}
+
+impl Model for ClauseSet {
+    ghost use Rattle.lv_clauses.specs.Sets.{SetValue, AreClauses};
+
+    ghost Value = { SetValue };
+
+    ghost view = { λ s. record { vars = s.vars; clauses = s.clauses.items } };
+
+    ghost invariant = { λ s. AreClauses s.vars s.clauses.items };
+}
+
+impl ClauseSet {
+    /// The set without clauses.
+    pub fn new(alloc: Global, vars: u64) -> ClauseSet
+        ensures { result ≡ record { vars = vars; clauses = [] } }
+    {
+        ClauseSet {
+            vars,
+            clauses: Vec::new(alloc),
+        }
+    }
+
+    /// Adds the clause of these literals, unless a literal is among them with both signs.
+    pub fn add(&mut self, lits: &[Lit]) -> Result<Added, NoMemory>
+        requires { IsWithin lits.now self.old.vars }
+        ensures ok { IfOk result (λ added. IsAdded self.old lits.now added self.new) }
+        ensures err { OnErr result (self.new ≡ self.old) }
+    {
+        match Clause::of(*self.clauses.allocator(), lits)? {
+            None => Ok(Added::Tautology),
+            Some(clause) => {
+                self.clauses.reserve(1)?;
+                self.clauses.push_reserved(clause);
+                Ok(Added::Clause)
+            }
+        }
+    }
+
+    pub fn vars(&self) -> u64
+        ensures { result ≡ self.now.vars }
+    {
+        self.vars
+    }
+
+    pub fn len(&self) -> u64
+        ensures { result ≡ length self.now.clauses }
+    {
+        self.clauses.len() as u64
+    }
+
+    /// The clause of this number, from 1.
+    pub fn clause(&self, id: u64) -> &Clause
+        requires { (1 ≤ id) × (id ≤ length self.now.clauses) }
+        ensures value { numbered self.now.clauses id ≡ Some result.now }
+        ensures sorted { IsClause result.now }
+        ensures within { IsWithin result.now self.now.vars }
+    {
+        &self.clauses[(id - 1) as usize]
+    }
+}

@@ -1,0 +1,4 @@
+pub mod Fits
+pub mod Net
+pub mod Run
+pub mod Stepping

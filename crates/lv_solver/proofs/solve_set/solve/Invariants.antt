@@ -1,0 +1,12 @@
+use Rattle.std.proofs.Common.{◌+◌, ◌-◌, ◌*◌, length}
+use Rattle.lv_solver.specs.Solving.{IsRun, IsLog}
+use Rattle.lv_solver.proofs.solve_set.solve.Given as goal
+
+abbrev pub invariant-loop-trail : goal.invariant-loop-trail
+invariant-loop-trail l = record {
+  run : IsRun l.set l.budget l.trail l.log;
+  log : IsLog l.set l.budget l.log;
+}
+
+abbrev pub decreases-loop-trail : goal.decreases-loop-trail
+decreases-loop-trail l = (l.budget - length l.log) * (l.trail.vars + 1) + (l.trail.vars - length l.trail.entries)

@@ -1,0 +1,11 @@
+//! A solver that learns lines until a set is satisfied or refuted, or its budget is spent.
+#![tactic(auto)]
+
+mod analyze;
+mod order;
+mod resolve;
+mod solve_set;
+#[cfg(test)]
+mod tests;
+
+pub use solve_set::{Answer, solve};

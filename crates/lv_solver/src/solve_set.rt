@@ -1,0 +1,155 @@
+ghost use Rattle.std.specs.Prelude.{◌≡◌, ℕ, ◌≤◌, IfOk, false};
+ghost use Rattle.lv_clauses.specs.Literals.{has, IsClauseOf};
+ghost use Rattle.lv_trail.specs.Trail.{IsTrail, IsReached, truths};
+ghost use Rattle.lv_trail.specs.declared.store.Reached.TheVariants.{Conflict};
+ghost use Rattle.lv_solver.specs.Learning.{AreFalse, IsSteady};
+ghost use Rattle.lv_solver.specs.Solving.{IsPick, IsChoice, IsAnswer, Values, HasLearnt};
+
+use crate::analyze::{analyze, jump_level, top_level};
+use crate::order::Order;
+use lv_bits::NoMemory;
+use lv_clauses::{Assignment, Clause, ClauseSet, Derivation, Line, Lit};
+use lv_trail::{Reached, Trail};
+use std::alloc::Global;
+
+/// What became of a set: values that satisfy it, a derivation that refutes it, or the lines that were written until the budget was spent.
+#[derive(Drop)]
+pub enum Answer {
+    Model(Assignment),
+    Refuted(Derivation),
+    Budget(Derivation),
+}
+
+/// The first variable without a value.
+fn pick(trail: &Trail, vars: u64) -> Option<u64>
+    requires { vars ≡ trail.now.vars }
+    ensures { IsPick trail.now result }
+{
+    for v in 0..vars {
+        if trail.value(v + 1).is_none() {
+            return Some(v + 1);
+        }
+    }
+    None
+}
+
+/// A literal to decide: of the first variable without a value, or as the order suggests.
+fn choose(trail: &Trail, vars: u64, order: &Order, rising: bool) -> Option<Lit>
+    requires { vars ≡ trail.now.vars }
+    ensures { IsChoice trail.now rising result }
+{
+    let Some(var) = pick(trail, vars) else {
+        return None;
+    };
+    if !rising {
+        if let Some(lit) = order.suggest(trail, vars) {
+            return Some(lit);
+        }
+    }
+    let lit = Lit::new(var, true);
+    Some(lit)
+}
+
+/// Whether a variable is true.
+fn is_true(trail: &Trail, var: u64) -> bool
+    requires { (1 ≤ var) × (var ≤ trail.now.vars) }
+    ensures { result ≡ has (truths trail.now.entries) (record { var = var; neg = false }) }
+{
+    match trail.value(var) {
+        Some(value) => value,
+        None => false,
+    }
+}
+
+/// The value of each variable.
+fn values(alloc: Global, trail: &Trail, vars: u64) -> Result<Assignment, NoMemory>
+    requires { vars ≡ trail.now.vars }
+    ensures { IfOk result (Values trail.now) }
+{
+    let mut values = Vec::new(alloc);
+    for v in 0..vars {
+        values.reserve(1)?;
+        values.push_reserved(is_true(trail, v + 1));
+    }
+    Ok(Assignment::new(values))
+}
+
+/// The clause of literals that are all false.
+fn clause_of(alloc: Global, trail: &Trail, lits: &[Lit]) -> Result<Clause, NoMemory>
+    requires sound { IsTrail trail.now }
+    requires false_all { AreFalse trail.now lits.now }
+    ensures { IfOk result (IsClauseOf lits.now) }
+{
+    match Clause::of(alloc, lits)? {
+        Some(clause) => Ok(clause),
+        None => unreachable!(),
+    }
+}
+
+/// Adds the line that a false clause teaches, and gives a copy of its clause.
+fn learn(
+    alloc: Global,
+    trail: &Trail,
+    log: &mut Derivation,
+    top: u64,
+    id: u64,
+    all: bool,
+) -> Result<Clause, NoMemory>
+    requires sound { IsTrail trail.now }
+    requires steady { IsSteady trail.now }
+    requires top { top ≡ trail.now.level }
+    requires conflict { IsReached trail.now (Conflict id) }
+    ensures { IfOk result (λ c. HasLearnt trail.now all log.old log.new c) }
+{
+    let learnt = analyze(alloc, trail, top, id, all)?;
+    let clause = clause_of(alloc, trail, &learnt.lits)?;
+    let copy = clause.copy(alloc)?;
+    log.push(Line::new(clause, learnt.hints))?;
+    Ok(copy)
+}
+
+/// Whether a set can be satisfied, by lines of which there are at most `budget`. Until half of them are written, variables that were
+/// in many lines are decided first, and a line is learnt at the first unique implication point; then the search goes back to level 0,
+/// decides variables in rising order, and learns the negations of the decisions that a conflict rests on.
+pub fn solve(alloc: Global, set: &ClauseSet, budget: u64) -> Result<Answer, NoMemory>
+    ensures { IfOk result (IsAnswer set.now budget) }
+{
+    let vars = set.vars();
+    let half = budget / 2;
+    let mut trail = Trail::new(alloc, set)?;
+    let mut log = Derivation::new(alloc);
+    let mut order = Order::new(alloc, vars)?;
+    loop {
+        match trail.propagate() {
+            Reached::Closed => match choose(&trail, vars, &order, log.len() >= half) {
+                None => {
+                    return Ok(Answer::Model(values(alloc, &trail, vars)?));
+                }
+                Some(lit) => {
+                    trail.decide(lit);
+                }
+            },
+            Reached::Conflict(id) => {
+                if log.len() >= budget {
+                    return Ok(Answer::Budget(log));
+                }
+                let top = top_level(&trail);
+                let root = top == 0;
+                let all = root || log.len() >= half;
+                let clause = learn(alloc, &trail, &mut log, top, id, all)?;
+                if root {
+                    return Ok(Answer::Refuted(log));
+                }
+                order.reward(clause.lits());
+                order.save(&trail);
+                let level = if log.len() == half {
+                    0
+                } else {
+                    jump_level(&trail, top, clause.lits())
+                };
+                trail.back(level);
+                trail.add(clause)?;
+            }
+        }
+    }
+}

@@ -1,0 +1,13 @@
+pub mod Declarations
+pub mod Flow
+pub mod Legal
+pub mod Limits
+pub mod NodeRules
+pub mod Observe
+pub mod PartRules
+pub mod Parts
+pub mod ScopeRules
+pub mod Scopes
+pub mod Settled
+pub mod Sites
+pub mod Standing

@@ -1,0 +1,7 @@
+pub mod Placing
+pub mod Pushing
+pub mod Opening
+pub mod Growing
+pub mod Adding
+pub mod Popping
+pub mod Valid

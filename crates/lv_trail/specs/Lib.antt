@@ -1,0 +1,3 @@
+pub mod Trail
+pub mod Store
+pub mod Status

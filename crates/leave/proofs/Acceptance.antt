@@ -92,8 +92,8 @@ module _ (p : Problem) (n : ℕ) (count : n ≡ suc p.registers) where
   base-holds valid x y h =
       by_pairs (λ x y. IsInitial m x y → AllHold m all x y true)
       (λ env z init. numbers-hold p n count (L env) (S env) true
-          (from-first R I env R (implied-apply (chosen_alike R I p.equal) (state_alike p) env (valid.holds env z)
-          (chosen-from R I env p.equal init.initial.0))) refl)
+      (from-first R I env R (implied-apply (chosen_alike R I p.equal) (state_alike p) env (valid.holds env z)
+      (chosen-from R I env p.equal init.initial.0))) refl)
       x y h.left h.right h.same_inputs h
 
   pub base-valid : ((x y : Assignment) → IsInitial m x y → AllHold m all x y true) → IsValid 0 (R + I + R) (base_formula p)
@@ -115,8 +115,8 @@ module _ (p : Problem) (n : ℕ) (count : n ≡ suc p.registers) where
       both-from (state_alike p) (shown_alike p) env (first-from R I env R same)
       (implied-from (both (left R I (truth p.retire)) (right R I (truth p.retire))) (all_alike R I p.contract) env
       (λ h.
-          let parts = both-parts (left R I (truth p.retire)) (right R I (truth p.retire)) env h in
-          all-from R I env p.contract (shown (sym (left-is R I env (truth p.retire)) ∙ parts.0) (sym (right-is R I env (truth p.retire)) ∙ parts.1))))
+      let parts = both-parts (left R I (truth p.retire)) (right R I (truth p.retire)) env h in
+      all-from R I env p.contract (shown (sym (left-is R I env (truth p.retire)) ∙ parts.0) (sym (right-is R I env (truth p.retire)) ∙ parts.1))))
 
   from-before : (env : Assignment) → both (state_alike p) (shown_alike p) env ≡ true → Registers (L env) (S env) × Shown (L env) (S env)
   from-before env h =
@@ -139,9 +139,9 @@ module _ (p : Problem) (n : ℕ) (count : n ≡ suc p.registers) where
   step-pairs valid x y zx zy same =
       by_pairs (λ x y. Registers x y → Shown x y → Stepped x y)
       (λ env z registers shown.
-          let h = implied-apply (both (state_alike p) (shown_alike p)) (both (all_alike R I p.next) (alike_in R I (truth p.retire))) env (valid.holds env z) (before-from env registers shown) in
-          let parts = both-parts (all_alike R I p.next) (alike_in R I (truth p.retire)) env h in
-          (from-all R I env p.next parts.0, from-alike R I env (truth p.retire) parts.1))
+      let h = implied-apply (both (state_alike p) (shown_alike p)) (both (all_alike R I p.next) (alike_in R I (truth p.retire))) env (valid.holds env z) (before-from env registers shown) in
+      let parts = both-parts (all_alike R I p.next) (alike_in R I (truth p.retire)) env h in
+      (from-all R I env p.next parts.0, from-alike R I env (truth p.retire) parts.1))
       x y zx zy same
 
   imply-pairs :
@@ -150,16 +150,16 @@ module _ (p : Problem) (n : ℕ) (count : n ≡ suc p.registers) where
   imply-pairs valid x y zx zy same =
       by_pairs (λ x y. Registers x y → Shown x y → Seen x y)
       (λ env z registers shown. from-all R I env p.attacker
-          (implied-apply (both (state_alike p) (shown_alike p)) (all_alike R I p.attacker) env (valid.holds env z) (before-from env registers shown)))
+      (implied-apply (both (state_alike p) (shown_alike p)) (all_alike R I p.attacker) env (valid.holds env z) (before-from env registers shown)))
       x y zx zy same
 
   pairs-step : ((env : Assignment) → Registers (L env) (S env) → Shown (L env) (S env) → Stepped (L env) (S env)) → IsValid 0 (R + I + R) (step_formula p)
   pairs-step each = record {
     holds = λ env z. implied-from (both (state_alike p) (shown_alike p)) (both (all_alike R I p.next) (alike_in R I (truth p.retire))) env
         (λ h.
-            let parts = from-before env h in
-            let stepped = each env parts.0 parts.1 in
-            both-from (all_alike R I p.next) (alike_in R I (truth p.retire)) env (all-from R I env p.next stepped.0) (alike-from R I env (truth p.retire) stepped.1));
+        let parts = from-before env h in
+        let stepped = each env parts.0 parts.1 in
+        both-from (all_alike R I p.next) (alike_in R I (truth p.retire)) env (all-from R I env p.next stepped.0) (alike-from R I env (truth p.retire) stepped.1));
   }
 
   pairs-imply : ((env : Assignment) → Registers (L env) (S env) → Shown (L env) (S env) → Seen (L env) (S env)) → IsValid 0 (R + I + R) (imply_formula p)
@@ -188,7 +188,7 @@ module _ (p : Problem) (n : ℕ) (count : n ≡ suc p.registers) where
   agree-shown : (x y : Assignment) → Agree (m.row x ++ []) (m.row y ++ []) → Shown x y
   agree-shown x y h e f =
       let g : Agree (shows x ∷ []) (shows y ∷ []) =
-          subst (λ z. Agree (shows x ∷ []) (z ++ [])) (row-shown y f) (subst (λ z. Agree (z ++ []) (m.row y ++ [])) (row-shown x e) h) in
+      subst (λ z. Agree (shows x ∷ []) (z ++ [])) (row-shown y f) (subst (λ z. Agree (z ++ []) (m.row y ++ [])) (row-shown x e) h) in
       g.0
 
   hidden-agrees : (x y : Assignment) → truth p.retire x ≡ false → Agree (m.row x ++ []) (m.row y ++ [])
@@ -229,9 +229,9 @@ module _ (p : Problem) (n : ℕ) (count : n ≡ suc p.registers) where
       let stepped : Stepped x y = step-pairs valid x y w.left.0 w.right.0 w.same_inputs.0 registers (agree-shown x y (w.agree e)) in
       numbers-hold p n count x' y' (aligned_after m x y a)
       (λ k h.
-          let f : Formula = get_or p.next k (Constant true) in
-          let at : slice_get p.next k ≡ Some f = slice_get-get_or p.next k (Constant true) (omega (arith, size)) in
-          w.left.1 k f at ∙ values-at p.next x y stepped.0 k f at ∙ sym (w.right.1 k f at))
+      let f : Formula = get_or p.next k (Constant true) in
+      let at : slice_get p.next k ≡ Some f = slice_get-get_or p.next k (Constant true) (omega (arith, size)) in
+      w.left.1 k f at ∙ values-at p.next x y stepped.0 k f at ∙ sym (w.right.1 k f at))
       (aligned-from x y a e stepped.1)
 
   pub imply-holds :

@@ -16,7 +16,7 @@ use Rattle.leave.specs.Texts.{IsDesignText}
 use Rattle.leave.specs.FirstForm.{IsLegal, AreObservers}
 use Rattle.leave.specs.Answers.{AsksFor, IsCommandLine, AreTextsOf, IsTask, Outside, IsReadName, contract, design, IsAnswer, accepted, unproved, usage, missing, overlong, unbuilt, fault, no_memory, IsVerdict, proved, unproved_one, not_of_form, IsJudged, judged, unread, IsCause, Goes, IsRefusal, is_missing, is_long, is_fault, is_memory, IsReported, told, cut, unwritten, Reports, IsVerifiedFile, IsUnprovedFile, HasFault, code_of}
 
-abbrev line_of : (words : List (List ℕ)) (file : List ℕ) → AsksFor words file → IsCommandLine words
+abbrev pub line_of : (words : List (List ℕ)) (file : List ℕ) → AsksFor words file → IsCommandLine words
 line_of words file asks = record { file = file; asks = asks }
 
 -- ---- counts
@@ -58,8 +58,8 @@ pub judged_is : (words : List (List ℕ)) (before after : Outside) (file bytes s
     AsksFor words file → HoldsFile file bytes before.files → HoldsFile texts.file source before.files → IsContractFile bytes texts → AreTextsOf texts c →
     IsJudged texts source c answer → IsAnswer words before after answer
 judged_is words before after file bytes source texts c answer asks h g contract_is trees (unread e) = subst (IsAnswer words before after) (sym e) (unbuilt (line_of words file asks))
-judged_is words before after file bytes source texts c _ asks h g contract_is trees (judged m text (proved legal observers yes)) =
-    accepted (line_of words file asks) texts m c (told_task before.files file bytes source texts m c h g contract_is text trees (legal, observers)) yes
+judged_is words before after file bytes source texts c _ asks h g contract_is trees (judged m text (proved legal observers verdict)) =
+    accepted (line_of words file asks) texts m c (told_task before.files file bytes source texts m c h g contract_is text trees (legal, observers)) verdict
 judged_is words before after file bytes source texts c _ asks h g contract_is trees (judged m text (unproved_one legal observers no_list)) =
     unproved (line_of words file asks) texts m c (told_task before.files file bytes source texts m c h g contract_is text trees (legal, observers)) no_list
 judged_is words before after file bytes source texts c _ asks h g contract_is trees (judged m text not_of_form) = unbuilt (line_of words file asks)
@@ -70,7 +70,7 @@ name_earlier : (f g : Option Files) (file name : List ℕ) → f ≡ g → IsRea
 name_earlier f g file name e h = subst (λ z. IsReadName z file name) e h
 
 pub answer_later : (words : List (List ℕ)) (first middle last : Outside) (answer : Answer) → Goes first middle → IsAnswer words middle last answer → IsAnswer words first last answer
-answer_later words first middle last _ goes (accepted line texts m c task yes) = accepted line texts m c (subst (λ z. IfSome z (λ files. IsTask files line.file texts m c)) goes.files task) yes
+answer_later words first middle last _ goes (accepted line texts m c task verdict) = accepted line texts m c (subst (λ z. IfSome z (λ files. IsTask files line.file texts m c)) goes.files task) verdict
 answer_later words first middle last _ goes (unproved line texts m c task no_list) = unproved line texts m c (subst (λ z. IfSome z (λ files. IsTask files line.file texts m c)) goes.files task) no_list
 answer_later words first middle last _ goes (usage none) = usage none
 answer_later words first middle last _ goes (missing line name read rose absent) =
@@ -86,8 +86,8 @@ answer_later words first middle last _ goes no_memory = no_memory
 
 module _ (words : List (List ℕ)) (before after : Outside) where
   zero_is : (answer : Answer) → IsAnswer words before after answer → code_of answer ≡ 0 → (files : Files) → before.files ≡ Some files → IsVerifiedFile files words
-  zero_is _ (accepted line texts m c task yes) e files held =
-      record { line = line; texts = texts; tree = m; observers = c; task = subst (λ z. IfSome z (λ files. IsTask files line.file texts m c)) held task; proved = yes }
+  zero_is _ (accepted line texts m c task verdict) e files held =
+      record { line = line; texts = texts; tree = m; observers = c; task = subst (λ z. IfSome z (λ files. IsTask files line.file texts m c)) held task; proved = verdict }
   zero_is _ (unproved line texts m c task no_list) e files held = absurd (omega arith)
   zero_is _ (usage none) e files held = absurd (omega arith)
   zero_is _ (missing line name read rose absent) e files held = absurd (omega arith)
@@ -97,7 +97,7 @@ module _ (words : List (List ℕ)) (before after : Outside) where
   zero_is _ no_memory e files held = absurd (omega arith)
 
   one_is : (answer : Answer) → IsAnswer words before after answer → code_of answer ≡ 1 → (files : Files) → before.files ≡ Some files → IsUnprovedFile files words
-  one_is _ (accepted line texts m c task yes) e files held = absurd (omega arith)
+  one_is _ (accepted line texts m c task verdict) e files held = absurd (omega arith)
   one_is _ (unproved line texts m c task no_list) e files held =
       record { line = line; texts = texts; tree = m; observers = c; task = subst (λ z. IfSome z (λ files. IsTask files line.file texts m c)) held task; unproved = no_list }
   one_is _ (usage none) e files held = absurd (omega arith)
@@ -108,7 +108,7 @@ module _ (words : List (List ℕ)) (before after : Outside) where
   one_is _ no_memory e files held = absurd (omega arith)
 
   two_is : (answer : Answer) → IsAnswer words before after answer → code_of answer ≡ 2 → IsCommandLine words → ⊥
-  two_is _ (accepted line texts m c task yes) e l = omega arith
+  two_is _ (accepted line texts m c task verdict) e l = omega arith
   two_is _ (unproved line texts m c task no_list) e l = omega arith
   two_is _ (usage none) e l = none l
   two_is _ (missing line name read rose absent) e l = omega arith
@@ -118,7 +118,7 @@ module _ (words : List (List ℕ)) (before after : Outside) where
   two_is _ no_memory e l = omega arith
 
   not_two : (answer : Answer) → IsAnswer words before after answer → (IsCommandLine words → ⊥) → (code_of answer ≡ 2) ⊎ (code_of answer ≡ 7)
-  not_two _ (accepted line texts m c task yes) none = absurd (none line)
+  not_two _ (accepted line texts m c task verdict) none = absurd (none line)
   not_two _ (unproved line texts m c task no_list) none = absurd (none line)
   not_two _ (usage none') none = inl refl
   not_two _ (missing line name read rose absent) none = absurd (none line)
@@ -128,7 +128,7 @@ module _ (words : List (List ℕ)) (before after : Outside) where
   not_two _ no_memory none = inr refl
 
   six_is : (answer : Answer) → IsAnswer words before after answer → code_of answer ≡ 6 → Rose before.faults after.faults
-  six_is _ (accepted line texts m c task yes) e = absurd (omega arith)
+  six_is _ (accepted line texts m c task verdict) e = absurd (omega arith)
   six_is _ (unproved line texts m c task no_list) e = absurd (omega arith)
   six_is _ (usage none) e = absurd (omega arith)
   six_is _ (missing line name read rose absent) e = absurd (omega arith)

@@ -14,11 +14,11 @@ use Rattle.lv_ast.specs.declared.stmt.Target.{Target}
 use Rattle.lv_ast.specs.declared.stmt.Target.TheVariants as t
 use Rattle.lv_ast.specs.declared.stmt.Stmt.{Stmt}
 use Rattle.lv_ast.specs.declared.stmt.Stmt.TheVariants as b
-use Rattle.lv_ast.specs.Names.{Name, Names, Valuation, Declared, Variable, known}
+use Rattle.lv_ast.specs.Names.{Name, Names, Valuation, Declared, Variable, known, is_signal_sort}
 use Rattle.lv_ast.specs.Places.{Place, place_of, write, write_bits, set_bit}
 use Rattle.lv_ast.specs.Values.{Meaning}
 use Rattle.lv_ast.specs.Meaning.{meaning, meant, read_select}
-use Rattle.lv_ast.specs.Effect.{Piece, pieces, piece_place, places, bits_in, write_all, assigned, State, Update, executes, applied, left_by}
+use Rattle.lv_ast.specs.Effect.{Piece, pieces, piece_place, aimed, places, bits_in, write_all, assigned, State, Update, executes, applied, left_by}
 use Rattle.lv_ast.proofs.Effects.{pieces-Name, run_all, executes-Later, executes-Block}
 use Rattle.leave.specs.declared.formula.Formula.{Formula}
 use Rattle.leave.specs.declared.formula.Formula.TheVariants.{Constant}
@@ -112,7 +112,7 @@ module _ (Rs Is : List Name) where
   one_place : (path : Path) (v : Valuation) (k : ℕ) → path.steps ≡ [] → slice_get Rs k ≡ Some path.name → places v (pieces names (t.Name path [])) ≡ record { name = path.name; bits = Some 0 ∷ [] } ∷ []
   one_place path v k plain at =
       let sort : names path ≡ Some (one_bit Variable path.name) = rw (plain_steps path plain, in-at Rs k path.name at) in
-      ap (places v) (pieces-Name names path []) ∙ ap (λ d. place_of (known d) [] v ∷ []) sort
+      ap (places v) (pieces-Name names path []) ∙ ap (λ d. aimed (is_signal_sort (known d).sort) (place_of (known d) [] v) ∷ []) sort
 
   one_value : (x : Expr) (f : Formula) (v : Valuation) → IsBitOf names S x (truth f) → AreBits S v → assigned v 1 (meaning names x) ≡ bit (truth f (env_of S v))
   one_value x f v h bits =
@@ -133,7 +133,7 @@ module _ (Rs Is : List Name) where
       let kept : st.valuation ≡ v = kept_all body (begun v) all in
       let s : Stmt = b.Later (t.Name path []) x place in
       let ran : run_all names (body ++ s ∷ []) (begun v) ≡ record st { pending = st.pending ++ update names st.valuation path x ∷ [] } =
-          run_all-push names body s (begun v) ∙ executes-Later names st (t.Name path []) x place in
+      run_all-push names body s (begun v) ∙ executes-Later names st (t.Name path []) x place in
       ap finished ran ∙ applied-push st.valuation st.pending (update names st.valuation path x) ∙
       ap (λ (u : Update). write_all (finished st) u.places u.value) (update_is path x k f st.valuation plain at h (subst (AreBits S) (sym kept) bits)) ∙
       ap (λ z. write_all (finished st) (record { name = path.name; bits = Some 0 ∷ [] } ∷ []) (bit (truth f (env_of S z)))) kept
@@ -174,7 +174,7 @@ module _ (Rs Is : List Name) where
     values = λ v bits j q g named found.
         let whole : List Stmt = body ++ b.Later (t.Name path []) x place ∷ [] in
         let before : (i : ℕ) (r : Name) (o : Formula) → slice_get Rs i ≡ Some r → slice_get next i ≡ Some o → left body v r ≡ bit (truth o (env_of S v)) =
-            λ i r o named found. sym (left_block body v r) ∙ now.values v bits i r o named found in
+        λ i r o named found. sym (left_block body v r) ∙ now.values v bits i r o named found in
         left_block whole v q ∙ ap (λ (w : Valuation). w q) (left_push body path x place k f v now.assigns plain at h bits) ∙
         elim (cases_eq j k) [
           | inl e ↦

@@ -64,8 +64,8 @@ module _ (p : Problem) (n : ℕ) (count : n ≡ suc p.registers) where
   pub numbers-hold : (l r : Assignment) (a : Bool) → ((k : ℕ) → k < p.registers → l k ≡ r k) → a ≡ true → AllHold m (range_with_len 0 n) l r a
   numbers-hold l r a same e = All-from_get_or (λ k. m.Holds k l r a) (range_with_len 0 n) 0
       (λ k below.
-          let h : k < n = omega (arith, length-range_with_len 0 n) in
-          subst (λ j. m.Holds j l r a) (sym (at_index n k h)) (held l r a same e k h))
+      let h : k < n = omega (arith, length-range_with_len 0 n) in
+      subst (λ j. m.Holds j l r a) (sym (at_index n k h)) (held l r a same e k h))
 
   holds : (l r : Assignment) (a : Bool) → AllHold m (range_with_len 0 n) l r a → (k : ℕ) → k < n → m.Holds k l r a
   holds l r a all k h =

@@ -1,7 +1,7 @@
 -- Lists of expressions with their formulas or registers, one more at the end.
 use Rattle.std.proofs.Common.{◌≡◌, ℕ, ◌<◌, ◌≤◌, Bool, true, false, List, [], ◌∷◌, ◌++◌, length, drop, take, ◌-◌, suc, get_or, refl, sym, ◌∙◌, ap, subst, arith}
 use Rattle.std.specs.Prelude.{Option, Some, None, IfSome, MatchOption, slice_get, bytes_eq, All, filter, not, cond}
-use Rattle.std.specs.List.{IsDistinct, AllByRecursion}
+use Rattle.std.specs.List.{IsDistinct, AllByRecursion, AllZip}
 use Rattle.std.proofs.lemmas.List.{take_all}
 use Rattle.std.proofs.lemmas.List.Elements.{All-push}
 use Rattle.std.proofs.lemmas.Map.Keys.{IsDistinct-head, IsDistinct-tail, IsDistinct-cons}
@@ -81,3 +81,9 @@ distinct_first (y ∷ ys) x some is none rest =
     let e : take (suc (length ys) - 1) ys ≡ ys = let n : suc (length ys) - 1 ≡ length ys = omega arith in ap (λ k. take k ys) n ∙ take_all (length ys) ys (omega arith) in
     let apart : is_in ys y ≡ false = subst (λ z. is_in ys z ≡ false) is (subst (λ z. is_in z x ≡ false) e none) in
     IsDistinct-cons bytes_eq y ys (apart_from_all y ys apart) (subst (IsDistinct bytes_eq) e rest)
+
+pub zip_more : {A B : Type 0} (P : A → B → Type 0) (xs : List A) (ys : List B) (x : A) (y : B) → AllZip P xs ys → P x y → AllZip P (xs ++ x ∷ []) (ys ++ y ∷ [])
+zip_more P [] [] x y all h = (h, tt)
+zip_more P [] (z ∷ ys) x y all h = absurd all
+zip_more P (z ∷ xs) [] x y all h = absurd all
+zip_more P (w ∷ xs) (z ∷ ys) x y all h = (all.0, zip_more P xs ys x y all.1 h)

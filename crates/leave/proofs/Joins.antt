@@ -6,7 +6,7 @@ use Rattle.lv_bits.specs.declared.op.Op.TheVariants as o
 use Rattle.lv_ast.specs.declared.expr.Path.{Path}
 use Rattle.lv_ast.specs.declared.expr.Expr.{Expr}
 use Rattle.lv_ast.specs.declared.expr.Expr.TheVariants as e
-use Rattle.lv_ast.specs.Names.{Name, Names, Sort, Input, Variable, is_constant_sort, has_no_steps}
+use Rattle.lv_ast.specs.Names.{Name, Names, Sort, Input, Variable, has_no_steps}
 use Rattle.leave.specs.FirstForm.{is_in, is_bitwise, one_bit, scope_of, IsBitExpr, name, inverse, joined}
 use Rattle.leave.specs.Formulas.{Truth, truth, variable, negated, both, either, differ}
 use Rattle.leave.specs.declared.formula.Formula.{Formula}
@@ -75,7 +75,7 @@ pub name_is_bit :
 name_is_bit registers inputs path k h = (
   name path h.plain (in-at (registers ++ inputs) k path.name h.number),
   subst (IsBitOf (scope_of registers inputs) (registers ++ inputs) (e.Name path [])) (sym (truth-Variable k))
-  (bit-Name (scope_of registers inputs) (registers ++ inputs) path h.sort.0 k h.sort.1 h.sort.2 h.number),
+      (bit-Name (scope_of registers inputs) (registers ++ inputs) path h.sort.0 k h.sort.1 h.sort.2 h.number),
 )
 
 -- ---- operators

@@ -7,7 +7,7 @@ use Rattle.lv_bits.specs.Values.{bit, unary_value, binary_value}
 use Rattle.lv_ast.specs.declared.expr.Path.{Path}
 use Rattle.lv_ast.specs.declared.expr.Expr.{Expr}
 use Rattle.lv_ast.specs.declared.expr.Expr.TheVariants as e
-use Rattle.lv_ast.specs.Names.{Name, Names, Valuation, Sort, Input, Net, Variable, Clock, Constant, Index, Other, is_constant_sort, known}
+use Rattle.lv_ast.specs.Names.{Name, Names, Valuation, Sort, Input, Net, Variable, Clock, Constant, Index, Other, is_signal_sort, known}
 use Rattle.lv_ast.specs.Values.{Meaning, unary, binary, arithmetic}
 use Rattle.lv_ast.specs.Meaning.{Reading, reading, meaning, read_expr, own, named}
 use Rattle.lv_ast.proofs.Readings.{read-Name, read-Un, read-Bin}
@@ -22,14 +22,14 @@ low_bit zero h = refl
 low_bit (suc zero) h = refl
 low_bit (suc (suc n)) h = absurd (omega arith)
 
-pub name_value : (sort : Sort) (x : Name) (v : Valuation) → is_constant_sort sort ≡ false → v x < 2 → (named (one_bit sort x) []).meaning.value 1 false v ≡ v x
+pub name_value : (sort : Sort) (x : Name) (v : Valuation) → is_signal_sort sort ≡ true → v x < 2 → (named (one_bit sort x) []).meaning.value 1 false v ≡ v x
 name_value Input x v kept h = low_bit (v x) h
 name_value Net x v kept h = low_bit (v x) h
 name_value Variable x v kept h = low_bit (v x) h
-name_value Clock x v kept h = low_bit (v x) h
+name_value Clock x v kept h = absurd (cc)
 name_value (Constant c) x v kept h = absurd (cc)
-name_value (Index g) x v kept h = low_bit (v x) h
-name_value Other x v kept h = low_bit (v x) h
+name_value (Index g) x v kept h = absurd (cc)
+name_value Other x v kept h = absurd (cc)
 
 not_value : (b : Bool) → unary_value o.Not 1 (bit b) ≡ bit (not b)
 not_value true = refl
@@ -42,7 +42,7 @@ module _ (names : Names) (signals : List Name) where
       ap (λ w. m.value w m.signed v) h.width ∙ ap (λ s. m.value 1 s v) h.signed ∙ h.value v bits
 
   -- a name that stands for a signal
-  pub bit-Name : (path : Path) (sort : Sort) (k : ℕ) → is_constant_sort sort ≡ false → names path ≡ Some (one_bit sort path.name) → slice_get signals k ≡ Some path.name → IsBitOf names signals (e.Name path []) (variable k)
+  pub bit-Name : (path : Path) (sort : Sort) (k : ℕ) → is_signal_sort sort ≡ true → names path ≡ Some (one_bit sort path.name) → slice_get signals k ≡ Some path.name → IsBitOf names signals (e.Name path []) (variable k)
   unfolding variable
   bit-Name path sort k kept h at =
       let r : read_expr names (e.Name path []) ≡ named (one_bit sort path.name) [] = read-Name names path [] ∙ ap (λ d. named (known d) []) h in
@@ -66,7 +66,7 @@ module _ (names : Names) (signals : List Name) where
     pub bit-Bin : (a b : Expr) (s t : Truth) → IsBitOf names signals a s → IsBitOf names signals b t → IsBitOf names signals (e.Bin op a b) (λ env. f (s env) (t env))
     bit-Bin a b s t h g =
         let r : read_expr names (e.Bin op a b) ≡ reading (arithmetic op (meaning names a) (meaning names b)) (read_expr names a ∷ read_expr names b ∷ []) =
-            read-Bin names op a b ∙ ap (λ f. reading (f (meaning names a) (meaning names b)) (read_expr names a ∷ read_expr names b ∷ [])) arithmetic_op in
+        read-Bin names op a b ∙ ap (λ f. reading (f (meaning names a) (meaning names b)) (read_expr names a ∷ read_expr names b ∷ [])) arithmetic_op in
         record {
           width = ap (λ r. r.meaning.width) r ∙ ap (λ n. max n (meaning names b).width) h.width ∙ ap (λ n. max 1 n) g.width;
           signed = ap (λ r. r.meaning.signed) r ∙ ap (λ n. n && (meaning names b).signed) h.signed;

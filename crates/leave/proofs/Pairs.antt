@@ -50,9 +50,9 @@ module _ (R I : ℕ) where
   left-joined l r z = funext (copy_of R I 0 (joined l r)) l (λ k. elim (cases_lt k R) [
     | inl h ↦ let e : k + 0 ≡ k = omega arith in copy-first 0 (joined l r) k h ∙ ap (joined l r) e ∙ joined-first l r k (omega arith)
     | inr h ↦ elim (cases_lt k (R + I)) [
-        | inl g ↦ copy-second 0 (joined l r) k h g ∙ joined-first l r k g
-        | inr g ↦ copy-third 0 (joined l r) k g ∙ sym (z.above k g)
-      ]
+      | inl g ↦ copy-second 0 (joined l r) k h g ∙ joined-first l r k g
+      | inr g ↦ copy-third 0 (joined l r) k g ∙ sym (z.above k g)
+    ]
   ])
 
   pub right-joined :
@@ -60,7 +60,7 @@ module _ (R I : ℕ) where
   right-joined l r z same = funext (copy_of R I (R + I) (joined l r)) r (λ k. elim (cases_lt k R) [
     | inl h ↦ copy-first (R + I) (joined l r) k h ∙ joined-second l r k h
     | inr h ↦ elim (cases_lt k (R + I)) [
-        | inl g ↦ copy-second (R + I) (joined l r) k h g ∙ joined-first l r k g ∙ same k h
-        | inr g ↦ copy-third (R + I) (joined l r) k g ∙ sym (z.above k g)
-      ]
+      | inl g ↦ copy-second (R + I) (joined l r) k h g ∙ joined-first l r k g ∙ same k h
+      | inr g ↦ copy-third (R + I) (joined l r) k g ∙ sym (z.above k g)
+    ]
   ])

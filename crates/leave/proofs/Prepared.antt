@@ -28,7 +28,7 @@ module _ (m : Module) (top clock : Name) (c : ObserverTrees) (ports : List Aport
       let regs : Rs ≡ registers_of m = signals.registers_are ∙ ap (λ (z : List Aport). port_names true z ++ register_items m.items) (sym list) in
       let ins : Is ≡ inputs_of m clock = signals.inputs_are ∙ ap (λ (z : List Aport). filter (λ x. not (bytes_eq x clock)) (port_names false z)) (sym list) in
       let built : IsBuilt clock (registers_of m) (inputs_of m clock) m.items c problem =
-          subst (λ z. IsBuilt clock z (inputs_of m clock) m.items c problem) regs (subst (λ z. IsBuilt clock Rs z m.items c problem) ins (build (distinct_signals ports m.items clock Rs Is signals))) in
+      subst (λ z. IsBuilt clock z (inputs_of m clock) m.items c problem) regs (subst (λ z. IsBuilt clock Rs z m.items c problem) ins (build (distinct_signals ports m.items clock Rs Is signals))) in
       record {
         legal = record {
           called = called;

@@ -156,6 +156,7 @@ module _ (Rs Is : List Name) (bodies : List Stmt) (c : ObserverTrees) (p : Probl
         λ all. All-cons (λ e. e l ≡ e r) (λ v. own names x v) (observed names xs)
             (el ∙ All-head (λ e. e (to l) ≡ e (to r)) (register k) (map register ks) all ∙ sym er) (rest.1 (All-tail (λ e. e (to l) ≡ e (to r)) (register k) (map register ks) all)),
       )
+
   initial_same : (l r : Valuation) → m.IsSettled l → m.IsSettled r → m.IsInitialPair l r ↔ n.IsInitialPair (to l) (to r)
   initial_same l r sl sr =
       let e = equal_same c.equal p.equal h.equal l r sl.0 sr.0 in
@@ -182,17 +183,17 @@ module _ (Rs Is : List Name) (bodies : List Stmt) (c : ObserverTrees) (p : Probl
           λ x. subst (λ z. MaybeHolds z l r a) (sym s) (sym el ∙ subst (λ z. MaybeHolds z (to l) (to r) a) t x ∙ er),
         )
     | inr past ↦ elim (cases_lt (length Rs) k) [
-        | inl more ↦
-            let s : slice_get (source.candidates_of Rs) k ≡ None = slice_get_past (source.candidates_of Rs) k (omega (arith, source_count Rs)) in
-            let t : slice_get (problem.candidates_of p.registers) k ≡ None = slice_get_past (problem.candidates_of p.registers) k (omega (arith, candidates-count p.registers, h.register_count)) in
-            (λ x. absurd (subst (λ z. MaybeHolds z l r a) s x), λ x. absurd (subst (λ z. MaybeHolds z (to l) (to r) a) t x))
-        | inr less ↦
-            let e : length Rs ≡ k = omega arith in
-            let f : p.registers ≡ k = omega (arith, h.register_count) in
-            let s = subst (λ j. slice_get (source.candidates_of Rs) j ≡ Some Aligned) e (source_last Rs) in
-            let t = subst (λ j. slice_get (problem.candidates_of p.registers) j ≡ Some Aligned) f (candidate-last p.registers) in
-            (λ x. subst (λ z. MaybeHolds z (to l) (to r) a) (sym t) (subst (λ z. MaybeHolds z l r a) s x), λ x. subst (λ z. MaybeHolds z l r a) (sym s) (subst (λ z. MaybeHolds z (to l) (to r) a) t x))
-      ]
+      | inl more ↦
+          let s : slice_get (source.candidates_of Rs) k ≡ None = slice_get_past (source.candidates_of Rs) k (omega (arith, source_count Rs)) in
+          let t : slice_get (problem.candidates_of p.registers) k ≡ None = slice_get_past (problem.candidates_of p.registers) k (omega (arith, candidates-count p.registers, h.register_count)) in
+          (λ x. absurd (subst (λ z. MaybeHolds z l r a) s x), λ x. absurd (subst (λ z. MaybeHolds z (to l) (to r) a) t x))
+      | inr less ↦
+          let e : length Rs ≡ k = omega arith in
+          let f : p.registers ≡ k = omega (arith, h.register_count) in
+          let s = subst (λ j. slice_get (source.candidates_of Rs) j ≡ Some Aligned) e (source_last Rs) in
+          let t = subst (λ j. slice_get (problem.candidates_of p.registers) j ≡ Some Aligned) f (candidate-last p.registers) in
+          (λ x. subst (λ z. MaybeHolds z (to l) (to r) a) (sym t) (subst (λ z. MaybeHolds z l r a) s x), λ x. subst (λ z. MaybeHolds z l r a) (sym s) (subst (λ z. MaybeHolds z (to l) (to r) a) t x))
+    ]
   ]
 
   pub mirrors : Mirrors m n (λ v. env_of S v) (λ env. val_of S env)

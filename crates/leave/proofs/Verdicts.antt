@@ -23,16 +23,14 @@ use Rattle.leave.proofs.Mirrors.{mirrored}
 
 -- ---- files that aren't read
 
-refusal_missing : (n m : List ℕ) → m ≡ n → IsRefusal n s.Missing (a.Missing m)
+pub refusal_missing : (n m : List ℕ) → m ≡ n → IsRefusal n s.Missing (a.Missing m)
 refusal_missing n m e = subst (λ z. IsRefusal n s.Missing (a.Missing z)) (sym e) is_missing
 
-refusal_long : (n m : List ℕ) → m ≡ n → IsRefusal n s.TooLong (a.Overlong m)
+pub refusal_long : (n m : List ℕ) → m ≡ n → IsRefusal n s.TooLong (a.Overlong m)
 refusal_long n m e = subst (λ z. IsRefusal n s.TooLong (a.Overlong z)) (sym e) is_long
 
-refusal_fault : (n m : List ℕ) → m ≡ n → IsRefusal n s.Failed (a.Fault m)
+pub refusal_fault : (n m : List ℕ) → m ≡ n → IsRefusal n s.Failed (a.Fault m)
 refusal_fault n m e = subst (λ z. IsRefusal n s.Failed (a.Fault z)) (sym e) is_fault
-
-pub ruleset refusals = (refusal_missing, refusal_long, refusal_fault, is_memory)
 
 -- ---- two equal states
 

@@ -121,7 +121,7 @@ accepted_text registers =
     line (codes "accepted") ++ line (codes "lookahead 0") ++ line (codes "kept " ++ decimal (suc (length registers))) ++
     flat_map keep_line registers ++ line (codes "keep aligned")
 
-unfoldable pub text_of : Answer → List ℕ
+abbrev pub text_of : Answer → List ℕ
 text_of (a.Accepted registers) = accepted_text registers
 text_of a.Unproved = line (codes "unproved")
 text_of a.Usage = line (codes "usage: leave MODE FILE [--out NAME]")

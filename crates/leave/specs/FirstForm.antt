@@ -81,7 +81,7 @@ one_bit sort name = record { path = name; bounds = record { left = 0; right = 0 
 abbrev pub scope_of : List Name → List Name → Names
 scope_of registers inputs path =
     if has_no_steps path then
-      (if is_in registers path.name then Some (one_bit Variable path.name) else if is_in inputs path.name then Some (one_bit Input path.name) else None)
+    (if is_in registers path.name then Some (one_bit Variable path.name) else if is_in inputs path.name then Some (one_bit Input path.name) else None)
     else None
 
 -- what the clocked blocks leave of a valuation; there is at most one

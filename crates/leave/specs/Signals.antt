@@ -14,7 +14,7 @@ use Rattle.lv_ast.specs.declared.item.Watch.TheVariants as w
 use Rattle.lv_ast.specs.declared.item.Aport.{Aport}
 use Rattle.lv_ast.specs.declared.item.Module.{Module}
 use Rattle.lv_ast.specs.declared.item.Item.{Item}
-use Rattle.lv_ast.specs.Names.{Name, Names, Valuation, Sort, is_constant_sort}
+use Rattle.lv_ast.specs.Names.{Name, Names, Valuation, Sort, is_signal_sort}
 use Rattle.lv_ast.specs.Meaning.{meaning}
 use Rattle.lv_ast.specs.Effect.{left_by}
 use Rattle.leave.specs.declared.observed.ObserverTrees.{ObserverTrees}
@@ -60,7 +60,7 @@ AreVariablesOf names signals (x ∷ xs) (k ∷ ks) = IsBitOf names signals x (va
 pub record IsSignal (registers inputs : List Name) (path : Path) (k : ℕ) : Type 0 where
   pub plain : path.steps ≡ []
   pub number : slice_get (registers ++ inputs) k ≡ Some path.name
-  pub sort : (s : Sort) × (is_constant_sort s ≡ false) × (scope_of registers inputs path ≡ Some (one_bit s path.name))
+  pub sort : (s : Sort) × (is_signal_sort s ≡ true) × (scope_of registers inputs path ≡ Some (one_bit s path.name))
 
 -- the truth that an operator makes of two
 pub data IsJoinedBy : Op → Truth → Truth → Truth → Type 0 where

@@ -64,7 +64,11 @@ fn formula_of_name(signals: &Signals, path: &Path) -> Option<Formula>
 }
 
 /// The formula of an expression of signals, `~`, `&`, `|` and `^`.
-pub(crate) fn formula_of(alloc: Global, signals: &Signals, expr: &Expr) -> Result<Option<Formula>, NoMemory>
+pub(crate) fn formula_of(
+    alloc: Global,
+    signals: &Signals,
+    expr: &Expr,
+) -> Result<Option<Formula>, NoMemory>
     ensures { IfOk result (λ f. IfSome f (λ f.
         IsBitExpr (signals.now.registers ++ signals.now.inputs) expr.now ×
         IsBitOf (scope_of signals.now.registers signals.now.inputs) (signals.now.registers ++ signals.now.inputs) expr.now (truth f))) }

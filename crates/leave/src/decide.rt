@@ -9,7 +9,8 @@ use crate::answer::Answer;
 use crate::contract_file::{ContractTexts, read_contract_texts};
 use crate::design_text::read_design;
 use crate::observed::ObserverTrees;
-use crate::prepare::prepare;
+use crate::prepare::{Prepared, prepare};
+use crate::signals::Signals;
 use crate::trees::read_trees;
 use crate::verdict::is_accepted;
 use crate::words::{Words, file_of};
@@ -22,22 +23,37 @@ use std::alloc::Global;
 const FILE_LIMIT: u64 = 4_194_304;
 
 /// The verdict on a module.
-fn judge_module(alloc: Global, texts: &ContractTexts, design: &Module, trees: &ObserverTrees) -> Result<Answer, NoMemory>
+fn judge_module(
+    alloc: Global,
+    texts: &ContractTexts,
+    design: &Module,
+    trees: &ObserverTrees,
+) -> Result<Answer, NoMemory>
     ensures { IfOk result (λ answer. IsVerdict texts.now design.now trees.now answer) }
 {
     let Some(prepared) = prepare(alloc, design, &texts.top, &texts.clock, trees)? else {
         return Ok(Answer::Unbuilt);
     };
-    let accepted = is_accepted(alloc, &prepared.problem)?;
+    let Prepared { problem, signals } = prepared;
+    let accepted = is_accepted(alloc, &problem)?;
+    let Signals {
+        registers,
+        inputs: _,
+    } = signals;
     if accepted {
-        Ok(Answer::Accepted(prepared.signals.registers))
+        Ok(Answer::Accepted(registers))
     } else {
         Ok(Answer::Unproved)
     }
 }
 
 /// The verdict on a design's text.
-fn judge(alloc: Global, texts: &ContractTexts, design: &[u8], trees: &ObserverTrees) -> Result<Answer, NoMemory>
+fn judge(
+    alloc: Global,
+    texts: &ContractTexts,
+    design: &[u8],
+    trees: &ObserverTrees,
+) -> Result<Answer, NoMemory>
     ensures { IfOk result (λ answer. IsJudged texts.now design.now trees.now answer) }
 {
     let Some(design) = read_design(alloc, design)? else {
@@ -48,7 +64,6 @@ fn judge(alloc: Global, texts: &ContractTexts, design: &[u8], trees: &ObserverTr
 }
 
 /// What is answered where a file isn't read.
-#[tactic(auto, using(crate::proofs::Verdicts::refusals))]
 fn refused(alloc: Global, name: &Text, error: ShelfError) -> Answer
     ensures { IsRefusal name.now error result }
 {
@@ -77,7 +92,12 @@ fn read_file<H: Shelf>(alloc: Global, name: &Text, shelf: &mut H) -> Result<Byte
 }
 
 /// From the trees of the contract file on.
-fn from_trees<H: Shelf>(alloc: Global, texts: &ContractTexts, trees: &ObserverTrees, shelf: &mut H) -> Answer
+fn from_trees<H: Shelf>(
+    alloc: Global,
+    texts: &ContractTexts,
+    trees: &ObserverTrees,
+    shelf: &mut H,
+) -> Answer
     ensures answer { (words : List (List ℕ)) (file bytes : List ℕ) → AsksFor words file → HoldsFile file bytes (H.files shelf.old) →
         IsContractFile bytes texts.now → AreTextsOf texts.now trees.now → IsAnswer words
         (record { files = H.files shelf.old; faults = H.faults shelf.old; misses = H.misses shelf.old; overlong = H.overlong shelf.old })
@@ -131,7 +151,7 @@ fn from_file<H: Shelf>(alloc: Global, file: &Text, shelf: &mut H) -> Answer
 {
     match read_file(alloc, file, shelf) {
         Err(error) => refused(alloc, file, error),
-        Ok(bytes) => from_contract(alloc, bytes.bytes(), shelf),
+        Ok(contract) => from_contract(alloc, contract.bytes(), shelf),
     }
 }
 

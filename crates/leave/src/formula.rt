@@ -135,7 +135,12 @@ pub(crate) fn implication(alloc: Global, a: Formula, b: Formula) -> Result<Formu
 
 /// The formula with one variable fixed.
 #[tactic(auto, using(crate::proofs::Truths::truths))]
-pub(crate) fn fixed(alloc: Global, formula: &Formula, number: usize, value: bool) -> Result<Formula, NoMemory>
+pub(crate) fn fixed(
+    alloc: Global,
+    formula: &Formula,
+    number: usize,
+    value: bool,
+) -> Result<Formula, NoMemory>
     ensures { IfOk result (λ f. truth f ≡ fixing number value (truth formula.now)) }
 {
     match formula {
@@ -190,7 +195,13 @@ fn copied_variable(number: usize, registers: usize, inputs: usize, by: usize) ->
 
 /// The formula of one copy of a design with so many registers and inputs.
 #[tactic(auto, using(crate::proofs::Truths::truths))]
-pub(crate) fn copied(alloc: Global, formula: &Formula, registers: usize, inputs: usize, by: usize) -> Result<Formula, NoMemory>
+pub(crate) fn copied(
+    alloc: Global,
+    formula: &Formula,
+    registers: usize,
+    inputs: usize,
+    by: usize,
+) -> Result<Formula, NoMemory>
     requires { registers + inputs + by < 2 ^ 32 }
     ensures { IfOk result (λ f. truth f ≡ in_copy registers inputs by (truth formula.now)) }
 {

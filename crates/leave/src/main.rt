@@ -18,6 +18,8 @@ mod prepare;
 mod problem;
 mod queries;
 mod reading;
+#[cfg(test)]
+mod rows;
 mod run;
 mod signals;
 mod splitter;
@@ -28,15 +30,14 @@ mod trees;
 mod verdict;
 mod words;
 
-pub use run::{Status, run};
-pub use words::Words;
-
 use lv_bits::Text;
 use lv_io::{FsShelf, StdSink};
+pub use run::{Status, run};
 use sqlite_items::Items;
 use std::env;
 use std::io::ErrorKind;
 use std::process::ExitCode;
+pub use words::Words;
 
 /// The words behind the program's name, or the status where they can't be had: 7 for want of memory, else 6. A list
 /// with a word that isn't UTF-8 is no command line: it is read as an empty one.

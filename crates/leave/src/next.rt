@@ -81,7 +81,12 @@ fn assign_target(
 }
 
 /// After one more statement.
-fn assign(alloc: Global, signals: &Signals, next: Items<Formula>, stmt: &Stmt) -> Result<Option<Items<Formula>>, NoMemory>
+fn assign(
+    alloc: Global,
+    signals: &Signals,
+    next: Items<Formula>,
+    stmt: &Stmt,
+) -> Result<Option<Items<Formula>>, NoMemory>
     ensures { IfOk result (λ o. IfSome o (λ new. (body : List code.Stmt) →
         IsNext signals.now.registers signals.now.inputs body next →
         IsNext signals.now.registers signals.now.inputs (body ++ stmt.now ∷ []) new)) }
@@ -113,7 +118,12 @@ fn assign_all(
 }
 
 /// After a clocked block's statement.
-fn body_next(alloc: Global, signals: &Signals, start: Items<Formula>, body: &Stmt) -> Result<Option<Items<Formula>>, NoMemory>
+fn body_next(
+    alloc: Global,
+    signals: &Signals,
+    start: Items<Formula>,
+    body: &Stmt,
+) -> Result<Option<Items<Formula>>, NoMemory>
     ensures { IfOk result (λ o. IfSome o (λ new.
         IsNext signals.now.registers signals.now.inputs [] start → IsBodyNext signals.now.registers signals.now.inputs body.now new)) }
 {

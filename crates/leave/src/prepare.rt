@@ -24,7 +24,11 @@ pub(crate) struct Prepared {
 }
 
 /// The formulas of expressions, in order.
-fn formulas_of(alloc: Global, signals: &Signals, exprs: &[Expr]) -> Result<Option<Items<Formula>>, NoMemory>
+fn formulas_of(
+    alloc: Global,
+    signals: &Signals,
+    exprs: &[Expr],
+) -> Result<Option<Items<Formula>>, NoMemory>
     ensures { IfOk result (λ o. IfSome o (λ fs.
         All (IsBitExpr (signals.now.registers ++ signals.now.inputs)) exprs.now ×
         AreBitsOf (scope_of signals.now.registers signals.now.inputs) (signals.now.registers ++ signals.now.inputs) exprs.now fs)) }
@@ -55,7 +59,11 @@ fn register_of(signals: &Signals, expr: &Expr) -> Option<usize>
 }
 
 /// The numbers of the registers that expressions are, in order.
-fn registers_of(alloc: Global, signals: &Signals, exprs: &[Expr]) -> Result<Option<Items<usize>>, NoMemory>
+fn registers_of(
+    alloc: Global,
+    signals: &Signals,
+    exprs: &[Expr],
+) -> Result<Option<Items<usize>>, NoMemory>
     ensures { IfOk result (λ o. IfSome o (λ ks.
         All (IsBitExpr signals.now.registers) exprs.now ×
         AreVariablesOf (scope_of signals.now.registers signals.now.inputs) (signals.now.registers ++ signals.now.inputs) exprs.now ks)) }
@@ -163,7 +171,12 @@ fn are_apart(alloc: Global, names: &[Text], more: &[Text]) -> Result<bool, NoMem
 }
 
 /// The signals of ports and items, where their names are distinct and the clock is an input.
-fn collect(alloc: Global, ports: &[Aport], items: &[Item], clock: &Text) -> Result<Option<Signals>, NoMemory>
+fn collect(
+    alloc: Global,
+    ports: &[Aport],
+    items: &[Item],
+    clock: &Text,
+) -> Result<Option<Signals>, NoMemory>
     ensures { IfOk result (λ o. IfSome o (λ s. HasSignals ports.now items.now clock.now s.registers s.inputs)) }
 {
     let mut registers = names_of_ports(alloc, ports, true)?;

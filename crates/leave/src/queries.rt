@@ -11,7 +11,12 @@ use lv_bits::NoMemory;
 use std::alloc::Global;
 
 /// The formula in the left copy.
-fn in_left(alloc: Global, formula: &Formula, registers: usize, inputs: usize) -> Result<Formula, NoMemory>
+fn in_left(
+    alloc: Global,
+    formula: &Formula,
+    registers: usize,
+    inputs: usize,
+) -> Result<Formula, NoMemory>
     requires { 2 * registers + 2 * inputs ≤ 16 }
     ensures { IfOk result (λ f. truth f ≡ left registers inputs (truth formula.now)) }
 {
@@ -19,7 +24,12 @@ fn in_left(alloc: Global, formula: &Formula, registers: usize, inputs: usize) ->
 }
 
 /// The formula in the right copy.
-fn in_right(alloc: Global, formula: &Formula, registers: usize, inputs: usize) -> Result<Formula, NoMemory>
+fn in_right(
+    alloc: Global,
+    formula: &Formula,
+    registers: usize,
+    inputs: usize,
+) -> Result<Formula, NoMemory>
     requires { 2 * registers + 2 * inputs ≤ 16 }
     ensures { IfOk result (λ f. truth f ≡ right registers inputs (truth formula.now)) }
 {
@@ -27,7 +37,12 @@ fn in_right(alloc: Global, formula: &Formula, registers: usize, inputs: usize) -
 }
 
 /// The formula has one value in both copies.
-fn one_alike(alloc: Global, formula: &Formula, registers: usize, inputs: usize) -> Result<Formula, NoMemory>
+fn one_alike(
+    alloc: Global,
+    formula: &Formula,
+    registers: usize,
+    inputs: usize,
+) -> Result<Formula, NoMemory>
     requires { 2 * registers + 2 * inputs ≤ 16 }
     ensures { IfOk result (λ f. truth f ≡ alike_in registers inputs (truth formula.now)) }
 {
@@ -38,7 +53,12 @@ fn one_alike(alloc: Global, formula: &Formula, registers: usize, inputs: usize) 
 }
 
 #[tactic(auto, using(crate::proofs::Truths::truths))]
-fn every_alike(alloc: Global, formulas: &[Formula], registers: usize, inputs: usize) -> Result<Formula, NoMemory>
+fn every_alike(
+    alloc: Global,
+    formulas: &[Formula],
+    registers: usize,
+    inputs: usize,
+) -> Result<Formula, NoMemory>
     requires { 2 * registers + 2 * inputs ≤ 16 }
     ensures { IfOk result (λ f. truth f ≡ all_alike registers inputs formulas.now) }
 {
@@ -54,7 +74,12 @@ fn every_alike(alloc: Global, formulas: &[Formula], registers: usize, inputs: us
 }
 
 #[tactic(auto, using(crate::proofs::Truths::truths))]
-fn variable_alike(alloc: Global, number: usize, registers: usize, inputs: usize) -> Result<Formula, NoMemory>
+fn variable_alike(
+    alloc: Global,
+    number: usize,
+    registers: usize,
+    inputs: usize,
+) -> Result<Formula, NoMemory>
     requires { 2 * registers + 2 * inputs ≤ 16 }
     ensures { IfOk result (λ f. truth f ≡ alike_in registers inputs (variable number)) }
 {
@@ -64,7 +89,12 @@ fn variable_alike(alloc: Global, number: usize, registers: usize, inputs: usize)
 }
 
 #[tactic(auto, using(crate::proofs::Truths::truths))]
-fn those_alike(alloc: Global, numbers: &[usize], registers: usize, inputs: usize) -> Result<Formula, NoMemory>
+fn those_alike(
+    alloc: Global,
+    numbers: &[usize],
+    registers: usize,
+    inputs: usize,
+) -> Result<Formula, NoMemory>
     requires { 2 * registers + 2 * inputs ≤ 16 }
     ensures { IfOk result (λ f. truth f ≡ chosen_alike registers inputs numbers.now) }
 {
@@ -81,7 +111,12 @@ fn those_alike(alloc: Global, numbers: &[usize], registers: usize, inputs: usize
 
 /// The registers below `count` are alike.
 #[tactic(auto, using(crate::proofs::Truths::truths))]
-fn below_alike(alloc: Global, count: usize, registers: usize, inputs: usize) -> Result<Formula, NoMemory>
+fn below_alike(
+    alloc: Global,
+    count: usize,
+    registers: usize,
+    inputs: usize,
+) -> Result<Formula, NoMemory>
     requires { 2 * registers + 2 * inputs ≤ 16 }
     ensures { IfOk result (λ f. truth f ≡ first_alike registers inputs count) }
 {
@@ -106,7 +141,12 @@ fn same_shown(alloc: Global, problem: &Problem) -> Result<Formula, NoMemory>
     let left = in_left(alloc, &problem.retire, problem.registers, problem.inputs)?;
     let right = in_right(alloc, &problem.retire, problem.registers, problem.inputs)?;
     let retire = conjunction(alloc, left, right)?;
-    let shown = every_alike(alloc, problem.contract.as_slice(), problem.registers, problem.inputs)?;
+    let shown = every_alike(
+        alloc,
+        problem.contract.as_slice(),
+        problem.registers,
+        problem.inputs,
+    )?;
     let f = implication(alloc, retire, shown)?;
     Ok(f)
 }
@@ -115,7 +155,12 @@ fn same_shown(alloc: Global, problem: &Problem) -> Result<Formula, NoMemory>
 pub(crate) fn base(alloc: Global, problem: &Problem) -> Result<Formula, NoMemory>
     ensures { IfOk result (λ f. truth f ≡ base_formula problem.now) }
 {
-    let equal = those_alike(alloc, problem.equal.as_slice(), problem.registers, problem.inputs)?;
+    let equal = those_alike(
+        alloc,
+        problem.equal.as_slice(),
+        problem.registers,
+        problem.inputs,
+    )?;
     let state = same_state(alloc, problem)?;
     let f = implication(alloc, equal, state)?;
     Ok(f)
@@ -135,7 +180,12 @@ pub(crate) fn step(alloc: Global, problem: &Problem) -> Result<Formula, NoMemory
     ensures { IfOk result (λ f. truth f ≡ step_formula problem.now) }
 {
     let before = before(alloc, problem)?;
-    let next = every_alike(alloc, problem.next.as_slice(), problem.registers, problem.inputs)?;
+    let next = every_alike(
+        alloc,
+        problem.next.as_slice(),
+        problem.registers,
+        problem.inputs,
+    )?;
     let retire = one_alike(alloc, &problem.retire, problem.registers, problem.inputs)?;
     let after = conjunction(alloc, next, retire)?;
     let f = implication(alloc, before, after)?;
@@ -147,7 +197,12 @@ pub(crate) fn imply(alloc: Global, problem: &Problem) -> Result<Formula, NoMemor
     ensures { IfOk result (λ f. truth f ≡ imply_formula problem.now) }
 {
     let before = before(alloc, problem)?;
-    let seen = every_alike(alloc, problem.attacker.as_slice(), problem.registers, problem.inputs)?;
+    let seen = every_alike(
+        alloc,
+        problem.attacker.as_slice(),
+        problem.registers,
+        problem.inputs,
+    )?;
     let f = implication(alloc, before, seen)?;
     Ok(f)
 }

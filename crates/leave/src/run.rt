@@ -24,7 +24,9 @@ fn report<S: Sink>(alloc: Global, answer: &Answer, out: &mut S) -> Status
         return Status { code: 7 };
     };
     match put_all(out, &text) {
-        Ok(()) => Status { code: answer.code() },
+        Ok(()) => Status {
+            code: answer.code(),
+        },
         Err(_) => Status { code: 6 },
     }
 }

@@ -57,7 +57,11 @@ fn push_names(alloc: Global, texts: &mut Items<Text>, names: &[Ident]) -> Result
 }
 
 /// The names of the ports of one direction.
-pub(crate) fn names_of_ports(alloc: Global, ports: &[Aport], output: bool) -> Result<Items<Text>, NoMemory>
+pub(crate) fn names_of_ports(
+    alloc: Global,
+    ports: &[Aport],
+    output: bool,
+) -> Result<Items<Text>, NoMemory>
     ensures { IfOk result (λ texts. texts ≡ port_names output ports.now) }
 {
     let mut texts = Items::new(alloc);

@@ -8,7 +8,12 @@ use lv_bits::NoMemory;
 use std::alloc::Global;
 
 /// Whether the formula is true whatever the variables from `start` to before `end` are.
-pub(crate) fn is_valid(alloc: Global, formula: &Formula, start: usize, end: usize) -> Result<bool, NoMemory>
+pub(crate) fn is_valid(
+    alloc: Global,
+    formula: &Formula,
+    start: usize,
+    end: usize,
+) -> Result<bool, NoMemory>
     requires { start ≤ end }
     ensures { IfOk result (λ yes. IsTrue yes ↔ IsValid start end (truth formula.now)) }
 {

@@ -27,7 +27,10 @@ fn read_all(alloc: Global, texts: &[Text]) -> Result<Option<Items<Expr>>, NoMemo
 }
 
 /// The trees that the texts of a contract file spell.
-pub(crate) fn read_trees(alloc: Global, texts: &ContractTexts) -> Result<Option<ObserverTrees>, NoMemory>
+pub(crate) fn read_trees(
+    alloc: Global,
+    texts: &ContractTexts,
+) -> Result<Option<ObserverTrees>, NoMemory>
     ensures { IfOk result (λ c. IfSome c (λ c. AreTextsOf texts.now c)) }
 {
     let Some(retire) = read_expression_text(alloc, texts.retire.bytes())? else {

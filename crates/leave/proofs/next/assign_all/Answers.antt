@@ -9,6 +9,6 @@ loop-stmt-preserved c = λ start.
     let body = c.args.body.now in
     let k = c.loop-stmt.stmt-index in
     let e : take (k + 1) body ≡ take k body ++ c.stmt-item.result ∷ [] =
-        take_more body k c.stmt-item.result c.loop-stmt-test.true ∙ ap (λ z. take k body ++ z ∷ []) (sym c.stmt-item.is) in
+    take_more body k c.stmt-item.result c.loop-stmt-test.true ∙ ap (λ z. take k body ++ z ∷ []) (sym c.stmt-item.is) in
     let step = rw c.in-Some.is at c.in_ok-after.ensures in
     subst (λ (z : List Stmt). IsNext c.args.signals.now.registers c.args.signals.now.inputs z c.in-Some.after) (sym e) (step (take k body) (c.loop-stmt.invariant start))

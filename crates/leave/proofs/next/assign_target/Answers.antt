@@ -13,4 +13,4 @@ returns-else-not-is_empty c =
     let empty : IsTrue c.is_empty.result = search rules in
     let e : c.args.target.now ≡ t.Name c.in-Name.path [] = c.in-Name.is ∙ ap (λ z. t.Name c.in-Name.path z) (c.is_empty.ensures.0 empty) in
     subst (λ (z : Target). IfOk c.assign_to.result (λ o. IfSome o (λ new. (body : List Stmt) (place : ℕ) →
-        IsNext Rs Is body c.args.next → IsNext Rs Is (body ++ b.Later z c.args.value.now place ∷ []) new))) (sym e) c.assign_to.ensures
+    IsNext Rs Is body c.args.next → IsNext Rs Is (body ++ b.Later z c.args.value.now place ∷ []) new))) (sym e) c.assign_to.ensures

@@ -1,0 +1,89 @@
+-- Lists of expressions with their formulas or registers, one more at the end.
+use Rattle.std.proofs.Common.{◌≡◌, ℕ, ◌<◌, ◌≤◌, Bool, true, false, List, [], ◌∷◌, ◌++◌, length, drop, take, ◌-◌, suc, get_or, refl, sym, ◌∙◌, ap, subst, arith}
+use Rattle.std.specs.Prelude.{Option, Some, None, IfSome, MatchOption, slice_get, bytes_eq, All, filter, not, cond}
+use Rattle.std.specs.List.{IsDistinct, AllByRecursion, AllZip}
+use Rattle.std.proofs.lemmas.List.{take_all}
+use Rattle.std.proofs.lemmas.List.Elements.{All-push}
+use Rattle.std.proofs.lemmas.Map.Keys.{IsDistinct-head, IsDistinct-tail, IsDistinct-cons}
+use Rattle.lv_ast.specs.declared.expr.Path.{Path}
+use Rattle.lv_ast.specs.declared.expr.Expr.{Expr}
+use Rattle.lv_ast.specs.declared.expr.Expr.TheVariants as e
+use Rattle.lv_ast.specs.Names.{Name, Names}
+use Rattle.leave.specs.declared.formula.Formula.{Formula}
+use Rattle.leave.specs.declared.formula.Formula.TheVariants as f
+use Rattle.leave.specs.FirstForm.{is_in, scope_of, IsBitExpr, name}
+use Rattle.leave.specs.Formulas.{truth, variable}
+use Rattle.leave.specs.Signals.{IsBitOf, AreBitsOf, AreVariablesOf, IsRegister}
+use Rattle.leave.proofs.Truths.{truth-Variable}
+use Rattle.leave.proofs.Numbering.{or_parts}
+use Rattle.leave.proofs.Joins.{in-at, register_signal, name_is_bit}
+
+pub all_more : {A : Type 0} (P : A → Type 0) (xs : List A) (x : A) → All P xs → P x → All P (xs ++ x ∷ [])
+all_more P xs x all h = All-push P xs x all h
+
+module _ (names : Names) (S : List Name) where
+  pub bits_more : (xs : List Expr) (fs : List Formula) (x : Expr) (f : Formula) → AreBitsOf names S xs fs → IsBitOf names S x (truth f) → AreBitsOf names S (xs ++ x ∷ []) (fs ++ f ∷ [])
+  bits_more [] [] x f all h = (h, tt)
+  bits_more [] (g ∷ fs) x f all h = absurd all
+  bits_more (y ∷ xs) [] x f all h = absurd all
+  bits_more (y ∷ xs) (g ∷ fs) x f all h = (all.0, bits_more xs fs x f all.1 h)
+
+  pub variables_more : (xs : List Expr) (ks : List ℕ) (x : Expr) (k : ℕ) → AreVariablesOf names S xs ks → IsBitOf names S x (variable k) → AreVariablesOf names S (xs ++ x ∷ []) (ks ++ k ∷ [])
+  variables_more [] [] x k all h = (h, tt)
+  variables_more [] (j ∷ ks) x k all h = absurd all
+  variables_more (y ∷ xs) [] x k all h = absurd all
+  variables_more (y ∷ xs) (j ∷ ks) x k all h = (all.0, variables_more xs ks x k all.1 h)
+
+register_at : (Rs Is : List Name) (x : Expr) (path : Path) (k : ℕ) → x ≡ e.Name path [] → path.steps ≡ [] → slice_get Rs k ≡ Some path.name → IsRegister Rs Is x k
+register_at Rs Is x path k is plain at =
+    subst (λ (z : Expr). IsRegister Rs Is z k) (sym is) (record {
+      legal = name path plain (in-at Rs k path.name at);
+      meant = subst (IsBitOf (scope_of Rs Is) (Rs ++ Is) (e.Name path [])) (truth-Variable k) (name_is_bit Rs Is path k (register_signal Rs Is path k plain at)).1;
+    })
+
+pub register_found : (Rs Is names : List Name) (x : Expr) (path : Path) (o : Option ℕ) → x ≡ e.Name path [] → path.steps ≡ [] → names ≡ Rs →
+    MatchOption o (is_in names path.name ≡ false) (λ k. slice_get names k ≡ Some path.name) → IfSome o (λ k. IsRegister Rs Is x k)
+register_found Rs Is names x path None is plain e h = tt
+register_found Rs Is names x path (Some k) is plain e h = register_at Rs Is x path k is plain (subst (λ z. slice_get z k ≡ Some path.name) e h)
+
+-- what is left of distinct names is distinct
+kept_all : (P : Name → Type 0) (p : Name → Bool) (xs ys : List Name) → AllByRecursion P (xs ++ ys) → AllByRecursion P (xs ++ filter p ys)
+kept_all P p (x ∷ xs) ys all = (all.0, kept_all P p xs ys all.1)
+kept_all P p [] [] all = tt
+kept_all P p [] (y ∷ ys) all = elim (p y) as (λ b. AllByRecursion P (cond b (y ∷ filter p ys) (filter p ys))) [
+  | true ↦ (all.0, kept_all P p [] ys all.1)
+  | false ↦ kept_all P p [] ys all.1
+]
+
+pub distinct_filter : (p : Name → Bool) (xs ys : List Name) → IsDistinct bytes_eq (xs ++ ys) → IsDistinct bytes_eq (xs ++ filter p ys)
+distinct_filter p (x ∷ xs) ys d =
+    IsDistinct-cons bytes_eq x (xs ++ filter p ys) (kept_all (λ y. bytes_eq x y ≡ false) p xs ys (IsDistinct-head bytes_eq x (xs ++ ys) d)) (distinct_filter p xs ys (IsDistinct-tail bytes_eq x (xs ++ ys) d))
+distinct_filter p [] [] d = d
+distinct_filter p [] (y ∷ ys) d = elim (p y) as (λ b. IsDistinct bytes_eq (cond b (y ∷ filter p ys) (filter p ys))) [
+  | true ↦ IsDistinct-cons bytes_eq y (filter p ys) (kept_all (λ z. bytes_eq y z ≡ false) p [] ys (IsDistinct-head bytes_eq y ys d)) (distinct_filter p [] ys (IsDistinct-tail bytes_eq y ys d))
+  | false ↦ distinct_filter p [] ys (IsDistinct-tail bytes_eq y ys d)
+]
+
+-- a name that stands at no place of a list differs from each of them
+pub apart_from_all : (x : Name) (ys : List Name) → is_in ys x ≡ false → AllByRecursion (λ y. bytes_eq x y ≡ false) ys
+apart_from_all x [] h = tt
+apart_from_all x (y ∷ ys) h = let parts = or_parts (bytes_eq x y) (is_in ys x) h in (parts.0, apart_from_all x ys parts.1)
+
+pub distinct_none : (xs : List Name) → length xs < 1 → IsDistinct bytes_eq xs
+unfolding IsDistinct
+distinct_none [] h = tt
+distinct_none (x ∷ xs) h = absurd (omega arith)
+
+pub distinct_first : (xs : List Name) (x : Name) → 1 ≤ length xs → x ≡ get_or xs 0 x → is_in (take (length xs - 1) (drop 1 xs)) x ≡ false →
+    IsDistinct bytes_eq (take (length xs - 1) (drop 1 xs)) → IsDistinct bytes_eq xs
+distinct_first [] x some is none rest = absurd (omega arith)
+distinct_first (y ∷ ys) x some is none rest =
+    let e : take (suc (length ys) - 1) ys ≡ ys = let n : suc (length ys) - 1 ≡ length ys = omega arith in ap (λ k. take k ys) n ∙ take_all (length ys) ys (omega arith) in
+    let apart : is_in ys y ≡ false = subst (λ z. is_in ys z ≡ false) is (subst (λ z. is_in z x ≡ false) e none) in
+    IsDistinct-cons bytes_eq y ys (apart_from_all y ys apart) (subst (IsDistinct bytes_eq) e rest)
+
+pub zip_more : {A B : Type 0} (P : A → B → Type 0) (xs : List A) (ys : List B) (x : A) (y : B) → AllZip P xs ys → P x y → AllZip P (xs ++ x ∷ []) (ys ++ y ∷ [])
+zip_more P [] [] x y all h = (h, tt)
+zip_more P [] (z ∷ ys) x y all h = absurd all
+zip_more P (z ∷ xs) [] x y all h = absurd all
+zip_more P (w ∷ xs) (z ∷ ys) x y all h = (all.0, zip_more P xs ys x y all.1 h)

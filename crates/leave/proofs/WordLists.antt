@@ -1,0 +1,8 @@
+-- Lists of two words.
+use Rattle.std.proofs.Common.{◌≡◌, ℕ, ◌<◌, ◌≤◌, List, [], ◌∷◌, length, get_or, refl, sym, ◌∙◌, ap, subst, arith}
+
+pub two_of : {A : Type 0} (xs : List A) (x y : A) → 2 ≤ length xs → length xs < 3 → x ≡ get_or xs 0 x → y ≡ get_or xs 1 y → xs ≡ x ∷ y ∷ []
+two_of [] x y some few first second = absurd (omega arith)
+two_of (a ∷ []) x y some few first second = absurd (omega arith)
+two_of (a ∷ b ∷ []) x y some few first second = cc
+two_of (a ∷ b ∷ d ∷ xs) x y some few first second = absurd (omega arith)

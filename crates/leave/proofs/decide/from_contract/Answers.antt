@@ -1,0 +1,9 @@
+use Rattle.leave.specs.Answers.{unbuilt, no_memory}
+use Rattle.leave.proofs.Answering.{line_of}
+use Rattle.leave.proofs.decide.from_contract.Goals as goal
+
+pub returns-in-Err-clause-answer : goal.returns-in-Err-clause-answer
+returns-in-Err-clause-answer g c = λ words file asks held. no_memory
+
+pub returns-in-Ok-None-clause-answer : goal.returns-in-Ok-None-clause-answer
+returns-in-Ok-None-clause-answer g c = λ words file asks held. unbuilt (line_of words file asks)

@@ -1,0 +1,14 @@
+use Rattle.std.proofs.Common.{◌≡◌, ◌+◌, ◌∷◌, ◌++◌, [], List, sym, ◌∙◌, ap, subst, take}
+use Rattle.std.proofs.lemmas.List.{take_more}
+use Rattle.lv_ast.specs.declared.stmt.Stmt.{Stmt}
+use Rattle.leave.specs.Signals.{IsNext}
+use Rattle.leave.proofs.next.assign_all.Goals as goal
+
+pub loop-stmt-preserved : goal.loop-stmt-preserved
+loop-stmt-preserved c = λ start.
+    let body = c.args.body.now in
+    let k = c.loop-stmt.stmt-index in
+    let e : take (k + 1) body ≡ take k body ++ c.stmt-item.result ∷ [] =
+    take_more body k c.stmt-item.result c.loop-stmt-test.true ∙ ap (λ z. take k body ++ z ∷ []) (sym c.stmt-item.is) in
+    let step = rw c.in-Some.is at c.in_ok-after.ensures in
+    subst (λ (z : List Stmt). IsNext c.args.signals.now.registers c.args.signals.now.inputs z c.in-Some.after) (sym e) (step (take k body) (c.loop-stmt.invariant start))

@@ -1,0 +1,12 @@
+use Rattle.std.proofs.Common.{◌≡◌, sym, ◌∙◌, subst}
+use Rattle.lv_ast.specs.Names.{Name}
+use Rattle.lv_ast.specs.declared.item.Watch.{Watch}
+use Rattle.lv_ast.specs.declared.item.Watch.TheVariants as w
+use Rattle.leave.specs.Signals.{IsClockedBy, edges}
+use Rattle.leave.proofs.Numbering.{bytes_same}
+use Rattle.leave.proofs.next.is_clocked_by.Goals as goal
+
+pub returns-in-Posedge : goal.returns-in-Posedge
+returns-in-Posedge c = λ e.
+    let same = bytes_same c.in-Posedge.edge.name c.args.clock.now (sym c.eq.ensures ∙ e) in
+    subst (λ (z : Watch). IsClockedBy z c.args.clock.now) (sym c.in-Posedge.is) (subst (λ (z : Name). IsClockedBy (w.Posedge c.in-Posedge.edge) z) same (edges c.in-Posedge.edge))

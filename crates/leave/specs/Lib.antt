@@ -1,0 +1,8 @@
+pub mod ContractFile
+pub mod Formulas
+pub mod Problems
+pub mod FirstForm
+pub mod Signals
+pub mod Spelling
+pub mod Texts
+pub mod Answers

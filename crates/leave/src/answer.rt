@@ -1,0 +1,107 @@
+//! Answers, their statuses and their texts.
+
+ghost use Rattle.std.specs.Prelude.{◌≡◌, ◌++◌, ◌∷◌, [], length, flat_map, decimal, codes, IfOk, OnOk, string_bytes, ℕ, suc};
+ghost use Rattle.leave.specs.Answers.{text_of, code_of, line, keep_line, accepted_text};
+
+use lv_bits::{NoMemory, Text};
+use sqlite_items::Items;
+use std::alloc::Global;
+
+/// What a run answers.
+#[derive(Drop)]
+pub(crate) enum Answer {
+    /// The list of all candidates proves the design; with its registers.
+    Accepted(Items<Text>),
+    /// The list of all candidates isn't inductive or doesn't imply.
+    Unproved,
+    /// The words are no command line.
+    Usage,
+    /// No file has the name.
+    Missing(Text),
+    /// The file is too long.
+    Overlong(Text),
+    /// The contract file or the design isn't of the form that is decided.
+    Unbuilt,
+    /// The file couldn't be read.
+    Fault(Text),
+    NoMemory,
+}
+
+impl Answer {
+    /// The exit status.
+    pub(crate) fn code(&self) -> u8
+        ensures { result ≡ code_of self.now }
+    {
+        match self {
+            Answer::Accepted(_) => 0,
+            Answer::Unproved => 1,
+            Answer::Usage => 2,
+            Answer::Missing(_) | Answer::Overlong(_) | Answer::Unbuilt => 3,
+            Answer::Fault(_) => 6,
+            Answer::NoMemory => 7,
+        }
+    }
+}
+
+fn push_line(text: &mut Vec<u8>, start: &[u8], rest: &[u8]) -> Result<(), NoMemory>
+    ensures { OnOk result (text.new.items ≡ text.old.items ++ line (start.now ++ rest.now)) }
+{
+    text.extend_from_slice(start)?;
+    text.extend_from_slice(rest)?;
+    text.extend_from_slice(b"\n")?;
+    Ok(())
+}
+
+fn one_line(alloc: Global, start: &[u8], rest: &[u8]) -> Result<Vec<u8>, NoMemory>
+    ensures { IfOk result (λ text. text.items ≡ line (start.now ++ rest.now)) }
+{
+    let mut text = Vec::new(alloc);
+    push_line(&mut text, start, rest)?;
+    Ok(text)
+}
+
+fn push_kept(text: &mut Vec<u8>, registers: &[Text]) -> Result<(), NoMemory>
+    ensures { OnOk result (text.new.items ≡ text.old.items ++ flat_map keep_line registers.now) }
+{
+    for register in registers {
+        push_line(text, b"keep eq ", register.bytes())?;
+    }
+    Ok(())
+}
+
+/// The number in decimal.
+fn decimal_of(alloc: Global, number: usize) -> Result<Vec<u8>, NoMemory>
+    ensures { IfOk result (λ text. text.items ≡ decimal number) }
+{
+    let text = format!(in alloc; "{number}")?;
+    Ok(text.into_bytes())
+}
+
+fn accepted(alloc: Global, registers: &[Text]) -> Result<Vec<u8>, NoMemory>
+    ensures { IfOk result (λ text. text.items ≡ accepted_text registers.now) }
+{
+    let count = decimal_of(alloc, registers.len() + 1)?;
+    let mut text = Vec::new(alloc);
+    push_line(&mut text, b"accepted", b"")?;
+    push_line(&mut text, b"lookahead 0", b"")?;
+    push_line(&mut text, b"kept ", &count)?;
+    push_kept(&mut text, registers)?;
+    push_line(&mut text, b"keep aligned", b"")?;
+    Ok(text)
+}
+
+/// The text of an answer.
+pub(crate) fn text(alloc: Global, answer: &Answer) -> Result<Vec<u8>, NoMemory>
+    ensures { IfOk result (λ text. text.items ≡ text_of answer.now) }
+{
+    match answer {
+        Answer::Accepted(registers) => accepted(alloc, registers.as_slice()),
+        Answer::Unproved => one_line(alloc, b"unproved", b""),
+        Answer::Usage => one_line(alloc, b"usage: leave MODE FILE [--out NAME]", b""),
+        Answer::Missing(name) => one_line(alloc, b"refused missing ", name.bytes()),
+        Answer::Overlong(name) => one_line(alloc, b"refused long ", name.bytes()),
+        Answer::Unbuilt => one_line(alloc, b"refused unbuilt", b""),
+        Answer::Fault(name) => one_line(alloc, b"fault read ", name.bytes()),
+        Answer::NoMemory => Err(NoMemory),
+    }
+}

@@ -1,4 +1,5 @@
 pub mod Answers
+pub mod FreeBits
 pub mod Continued
 pub mod Digits
 pub mod Ends

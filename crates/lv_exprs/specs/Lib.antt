@@ -11,3 +11,4 @@ pub mod Stands
 pub mod Steps
 pub mod Symbols
 pub mod Trees
+pub mod Definite

@@ -3,6 +3,7 @@
 
 mod build;
 mod classify;
+mod definite;
 mod error;
 mod laws;
 mod literal;
@@ -14,6 +15,7 @@ mod symbol;
 #[cfg(test)]
 mod tests;
 
+pub use definite::read_definite;
 pub use error::SyntaxError;
 pub use laws::{has_one_form, nothing_goes_on};
 pub use read::read_expr;

@@ -3,10 +3,10 @@ use Rattle.std.proofs.Common.{◌≡◌, ℕ, suc, zero, ◌+◌, ◌-◌, ◌<�
 use Rattle.std.specs.Prelude.{Some, None, slice_get}
 use Rattle.std.proofs.lemmas.Option.{slice_get_past, slice_get-map}
 use Rattle.std.proofs.lemmas.List.{length-take, length-map}
-use Rattle.lv_clauses.specs.declared.lit.Lit.{Lit}
 use Rattle.lv_clauses.proofs.Lists.{get-after, get-taken}
 use Rattle.lv_clauses.specs.Derivations.{Step, known_at}
 use Rattle.lv_clauses.specs.Sets.{numbered}
+use Rattle.lv_clauses.specs.Literals.{Lit}
 
 pub known-line : (cs : List (List Lit)) (lines : List Step) (k j : ℕ) (s : Step) → j < k → slice_get lines j ≡ Some s → slice_get (known_at cs lines k) (length cs + j) ≡ Some s.clause
 known-line cs lines k j s below e =

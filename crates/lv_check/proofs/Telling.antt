@@ -2,8 +2,7 @@
 use Rattle.std.proofs.Common.{◌≡◌, ◌≢◌, ℕ, suc, zero, ◌-◌, ◌<◌, ◌≤◌, Bool, true, false, not, ◌||◌, eqb, List, [], ◌∷◌, ◌++◌, length, map, take, set, get_or, refl, sym, ◌∙◌, ap, subst, arith, inl, inr, get_or-set_other, get_or-set_same, length-set}
 use Rattle.std.proofs.Math.Bool.{beq}
 use Rattle.std.proofs.lemmas.Bool.{cases_eq, cases_Bool, eq-eqb, ne_eqb, and_left}
-use Rattle.lv_clauses.specs.declared.lit.Lit.{Lit}
-use Rattle.lv_clauses.specs.Literals.{negated, same, has, Rises}
+use Rattle.lv_clauses.specs.Literals.{Lit, negated, same, has, Rises}
 use Rattle.lv_clauses.specs.Units.{remaining}
 use Rattle.lv_clauses.proofs.Literals.{same_lit, either, has-head, has-cases, has-negated}
 use Rattle.lv_check.specs.declared.marks.Mark.{Mark}

@@ -2,10 +2,10 @@
 use Rattle.std.proofs.Common.{◌≡◌, ℕ, suc, zero, ◌<◌, false, eqb, List, [], ◌∷◌, length, drop, refl, sym, ◌∙◌, arith, inl, inr}
 use Rattle.std.specs.Prelude.{Some}
 use Rattle.std.proofs.lemmas.Bool.{cases_eq, eq-eqb, ne_eqb}
-use Rattle.lv_clauses.specs.declared.lit.Lit.{Lit}
 use Rattle.lv_clauses.specs.Sets.{numbered}
 use Rattle.lv_clauses.specs.Units.{remaining}
 use Rattle.lv_clauses.specs.Derivations.{walks, is_nil}
+use Rattle.lv_clauses.specs.Literals.{Lit}
 
 pub walks-nothing : (known : List (List Lit)) (h : ℕ) (hs : List ℕ) (u c : List Lit) → numbered known h ≡ Some c → remaining u c ≡ [] → walks known (h ∷ hs) u ≡ is_nil hs
 walks-nothing known h hs u c e f = rw e (rw f refl)

@@ -1,8 +1,7 @@
 -- Marks, which tell the true literals of a line.
 use Rattle.std.specs.Prelude.{◌≡◌, ℕ, ◌-◌, ◌<◌, ◌≤◌, Bool, true, false, ◌&&◌, eqb, List, [], ◌∷◌, map, length, get_or, slice_get, Some}
 use Rattle.std.proofs.Math.Bool.{beq}
-use Rattle.lv_clauses.specs.declared.lit.Lit.{Lit}
-use Rattle.lv_clauses.specs.Literals.{has, negated, IsWithin}
+use Rattle.lv_clauses.specs.Literals.{Lit, has, negated, IsWithin}
 use Rattle.lv_clauses.specs.Derivations.{Step}
 use Rattle.lv_check.specs.declared.marks.Mark.{Mark}
 use Rattle.lv_check.specs.declared.marks.Rest.{Rest}

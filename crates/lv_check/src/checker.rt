@@ -1,6 +1,5 @@
 ghost use Rattle.std.specs.Prelude.{◌≡◌, ℕ, ◌+◌, ◌-◌, ◌^◌, ◌<◌, ◌≤◌, ◌↔◌, List, length, slice_get, IfOk, IsTrue, MatchOption, Some, None};
-ghost use Rattle.lv_clauses.specs.declared.lit.Lit.{Lit as Literal};
-ghost use Rattle.lv_clauses.specs.Literals.{IsWithin, IsClause};
+ghost use Rattle.lv_clauses.specs.Literals.{Lit as Literal, IsWithin, IsClause};
 ghost use Rattle.lv_clauses.specs.Derivations.{Follows, known_at, walks};
 ghost use Rattle.lv_clauses.specs.Sets.{numbered};
 ghost use Rattle.lv_check.specs.Marks.{AreBelow, AreEarlierWithin, Tells, Assumed};
@@ -62,7 +61,7 @@ fn assume(marks: &mut [Mark], line: u64, lits: &[Lit]) -> bool
     ensures fresh { AreBelow marks.new (line + 1) }
 {
     for x in lits {
-        if x.var() < 1 || x.var() > marks.len() as u64 {
+        if x.var() > marks.len() as u64 {
             return false;
         }
         make_true(marks, line, x.negated());

@@ -1,6 +1,5 @@
 ghost use Rattle.std.specs.Prelude.{◌≡◌, ℕ, ◌-◌, ◌<◌, ◌≤◌, List, length, slice_set, IsTrue};
-ghost use Rattle.lv_clauses.specs.declared.lit.Lit.{Lit as Literal};
-ghost use Rattle.lv_clauses.specs.Literals.{IsWithin, IsClause, negated};
+ghost use Rattle.lv_clauses.specs.Literals.{Lit as Literal, IsWithin, IsClause, negated};
 ghost use Rattle.lv_clauses.specs.Units.{remaining};
 ghost use Rattle.lv_check.specs.Marks.{marked, mark_of, Tells, IsRest, IsRestWithin};
 

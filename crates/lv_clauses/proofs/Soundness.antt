@@ -6,8 +6,7 @@ use Rattle.std.proofs.lemmas.Bool.{cases_Bool, or_cases, and_from, true≢false}
 use Rattle.std.proofs.lemmas.List.{take_more}
 use Rattle.std.proofs.lemmas.List.Folds.{list_all-append}
 use Rattle.std.proofs.lemmas.Grind.{common_steps}
-use Rattle.lv_clauses.specs.declared.lit.Lit.{Lit}
-use Rattle.lv_clauses.specs.Literals.{has, negated}
+use Rattle.lv_clauses.specs.Literals.{Lit, has, negated}
 use Rattle.lv_clauses.specs.Sets.{SetValue, numbered}
 use Rattle.lv_clauses.specs.Values.{literal_value, is_satisfied, Satisfies}
 use Rattle.lv_clauses.specs.Units.{remaining}

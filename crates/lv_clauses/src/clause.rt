@@ -1,6 +1,5 @@
 ghost use Rattle.std.specs.Prelude.{◌≡◌, ℕ, ◌<◌, ◌≤◌, ◌↔◌, IfOk, MatchOption, IsTrue, List, false, true};
-ghost use Rattle.lv_clauses.specs.declared.lit.Lit.{Lit};
-ghost use Rattle.lv_clauses.specs.Literals.{has, negated, IsClause, IsClauseOf, IsWithin, HasPair, FoundNext};
+ghost use Rattle.lv_clauses.specs.Literals.{Lit, has, negated, IsClause, IsClauseOf, IsWithin, HasPair, FoundNext};
 
 use crate::lit::Lit;
 use lv_bits::NoMemory;
@@ -15,8 +14,7 @@ pub struct Clause {
 
 impl Model for Clause {
     ghost use Rattle.std.specs.Prelude.{List};
-    ghost use Rattle.lv_clauses.specs.declared.lit.Lit.{Lit};
-    ghost use Rattle.lv_clauses.specs.Literals.{IsClause};
+    ghost use Rattle.lv_clauses.specs.Literals.{Lit, IsClause};
 
     ghost Value = { List Lit };
 
@@ -45,7 +43,7 @@ pub fn are_within(lits: &[Lit], vars: u64) -> bool
     ensures { IsTrue result ↔ IsWithin lits.now vars }
 {
     for x in lits {
-        if x.var() < 1 || x.var() > vars {
+        if x.var() > vars {
             return false;
         }
     }
@@ -53,8 +51,9 @@ pub fn are_within(lits: &[Lit], vars: u64) -> bool
 }
 
 /// Whether the literal should take the place of what was found.
-fn is_better(found: Option<Lit>, x: Lit, last: u64) -> bool
-    ensures { IsTrue result ↔ ((last < x.var) × MatchOption found (Unit {0}) (λ y. x.var < y.var)) }
+fn is_better(found: &Option<Lit>, x: Lit, last: u64) -> bool
+    ensures better { IsTrue result ↔ ((last < x.var) × MatchOption found.now (Unit {0}) (λ y. x.var < y.var)) }
+    ensures numbered { 1 ≤ x.var }
 {
     match found {
         None => x.var() > last,
@@ -64,11 +63,12 @@ fn is_better(found: Option<Lit>, x: Lit, last: u64) -> bool
 
 /// A literal with the least variable above `last`.
 fn next_after(lits: &[Lit], last: u64) -> Option<Lit>
-    ensures { FoundNext lits.now last result }
+    ensures next { FoundNext lits.now last result }
+    ensures numbered { (l : Lit) → IsTrue (has lits.now l) → 1 ≤ l.var }
 {
     let mut found: Option<Lit> = None;
     for x in lits {
-        if is_better(found, *x, last) {
+        if is_better(&found, *x, last) {
             found = Some(*x);
         }
     }
@@ -78,7 +78,6 @@ fn next_after(lits: &[Lit], last: u64) -> Option<Lit>
 impl Clause {
     /// The clause of these literals, none exactly where a pair is complementary.
     pub fn of(alloc: Global, lits: &[Lit]) -> Result<Option<Clause>, NoMemory>
-        requires { (l : Lit) → IsTrue (has lits.now l) → 1 ≤ l.var }
         ensures { IfOk result (λ made. MatchOption made (HasPair lits.now) (IsClauseOf lits.now)) }
     {
         let mut out = Vec::new(alloc);

@@ -2,8 +2,7 @@
 use Rattle.std.proofs.Common.{◌≡◌, ℕ, ◌≤◌, Bool, true, false, ◌&&◌, ◌||◌, List, [], ◌∷◌, ◌++◌, refl, ◌∙◌, ap, arith, eqb}
 use Rattle.std.proofs.lemmas.Bool.{eqb-true}
 use Rattle.std.proofs.Math.Bool.{beq}
-use Rattle.lv_clauses.specs.declared.lit.Lit.{Lit}
-use Rattle.lv_clauses.specs.Literals.{same, has, IsWithin, IsClause, IsClauseOf}
+use Rattle.lv_clauses.specs.Literals.{Lit, same, has, IsWithin, IsClause, IsClauseOf}
 use Rattle.lv_clauses.specs.Sets.{SetValue}
 use Rattle.lv_gates.specs.Lists.{AreBelow}
 

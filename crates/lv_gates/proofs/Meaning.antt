@@ -4,13 +4,13 @@ use Rattle.std.proofs.lemmas.Bool.{cases_lt, eqb-true}
 use Rattle.lv_aig.specs.declared.edge.Edge.{Edge}
 use Rattle.lv_aig.specs.declared.edge.Gate.{Gate}
 use Rattle.lv_aig.specs.Edges.{Nodes, gate_at, edge_bit, IsGraph}
-use Rattle.lv_clauses.specs.declared.lit.Lit.{Lit}
 use Rattle.std.specs.List.{list_all}
 use Rattle.lv_clauses.specs.Sets.{SetValue}
 use Rattle.lv_clauses.specs.Values.{is_satisfied, Satisfies}
 use Rattle.lv_clauses.specs.Decided.{signed, partial_value, rests, AreAtRest}
 use Rattle.lv_gates.specs.Lists.{yes, no, lit_of, three, clauses_from, goal_clauses, goal_vars}
 use Rattle.lv_gates.specs.Encodes.{HasInputs, HasNoEmpty, Encodes}
+use Rattle.lv_clauses.specs.Literals.{Lit}
 
 abbrev any_true : List Bool → Bool
 any_true [] = false

@@ -2,10 +2,10 @@
 use Rattle.std.specs.Prelude.{◌≡◌, ◌≢◌, ℕ, ◌<◌, ◌≤◌, Bool, true, false, List, [], ◌∷◌, length, None}
 use Rattle.lv_aig.specs.declared.edge.Edge.{Edge}
 use Rattle.lv_aig.specs.Edges.{Nodes, gate_at, edge_bit, IsValuation}
-use Rattle.lv_clauses.specs.declared.lit.Lit.{Lit}
 use Rattle.lv_clauses.specs.Sets.{SetValue}
 use Rattle.lv_clauses.specs.Values.{Satisfies}
 use Rattle.lv_clauses.specs.Decided.{IsDecidedAtRest}
+use Rattle.lv_clauses.specs.Literals.{Lit}
 
 -- the inputs come first
 pub record HasInputs (d : ℕ) (nodes : Nodes) : Type 0 where

@@ -3,7 +3,7 @@ use Rattle.std.specs.Prelude.{ℕ, ◌+◌, ◌-◌, true, false, not, List, [],
 use Rattle.lv_aig.specs.declared.edge.Edge.{Edge}
 use Rattle.lv_aig.specs.declared.edge.Gate.{Gate}
 use Rattle.lv_aig.specs.Edges.{Nodes}
-use Rattle.lv_clauses.specs.declared.lit.Lit.{Lit}
+use Rattle.lv_clauses.specs.Literals.{Lit}
 
 abbrev pub yes : ℕ → Lit
 yes k = record { var = k; neg = false }

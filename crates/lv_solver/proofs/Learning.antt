@@ -3,8 +3,7 @@ use Rattle.std.proofs.Common.{◌≡◌, ℕ, suc, zero, ◌+◌, ◌<◌, ◌�
 use Rattle.std.specs.Prelude.{IsTrue, Option, Some, None, is_some}
 use Rattle.std.proofs.lemmas.Option.{slice_get_within}
 use Rattle.std.proofs.lemmas.Bool.{cases_order, cases_Bool}
-use Rattle.lv_clauses.specs.declared.lit.Lit.{Lit}
-use Rattle.lv_clauses.specs.Literals.{negated, has, IsClause, IsWithin}
+use Rattle.lv_clauses.specs.Literals.{Lit, negated, has, IsClause, IsWithin}
 use Rattle.lv_clauses.specs.Sets.{numbered}
 use Rattle.lv_clauses.proofs.Literals.{negated-negated}
 use Rattle.lv_trail.specs.declared.store.Entry.{Entry}

@@ -8,8 +8,7 @@ use Rattle.lv_clauses.specs.Values.{literal_value, is_satisfied, values_of, IsMo
 use Rattle.lv_solver.proofs.Resolving.{same_or}
 use Rattle.std.proofs.lemmas.List.{take-append-le, map-append}
 use Rattle.std.proofs.lemmas.Option.{slice_get_within, get_or_from_slice_get}
-use Rattle.lv_clauses.specs.declared.lit.Lit.{Lit}
-use Rattle.lv_clauses.specs.Literals.{negated, has, IsClause, IsClauseOf, IsWithin}
+use Rattle.lv_clauses.specs.Literals.{Lit, negated, has, IsClause, IsClauseOf, IsWithin}
 use Rattle.lv_clauses.specs.Sets.{SetValue}
 use Rattle.lv_clauses.specs.Derivations.{Step, IsDerivation, IsPart, Follows, known_at, walks}
 use Rattle.lv_clauses.specs.Decided.{IsDecidedBy}

@@ -2,8 +2,7 @@
 use Rattle.std.proofs.Common.{◌≡◌, true, List, [], ◌∷◌, ◌++◌, sym, ◌∙◌, subst, ◌⊎◌, inl, inr}
 use Rattle.std.specs.Prelude.{IsTrue}
 use Rattle.std.proofs.lemmas.Bool.{cases_Bool, true≢false}
-use Rattle.lv_clauses.specs.declared.lit.Lit.{Lit}
-use Rattle.lv_clauses.specs.Literals.{negated, same, has}
+use Rattle.lv_clauses.specs.Literals.{Lit, negated, same, has}
 use Rattle.lv_clauses.proofs.Literals.{same-true, same-refl, push-old, push-new, push-cases}
 use Rattle.lv_solver.specs.Resolving.{HasOne, HasOthers, IsResolvent}
 

@@ -2,8 +2,7 @@
 use Rattle.std.proofs.Common.{◌≡◌, ℕ, suc, zero, ◌+◌, ◌-◌, ◌/◌, ◌<◌, ◌≤◌, List, [], ◌∷◌, ◌++◌, length, take, get_or, refl, sym, ◌∙◌, ap, subst, arith, ◌⊎◌, inl, inr, length-append}
 use Rattle.std.proofs.lemmas.Bool.{cases_lt, true≢false}
 use Rattle.std.proofs.lemmas.List.{take-append-le}
-use Rattle.lv_clauses.specs.declared.lit.Lit.{Lit}
-use Rattle.lv_clauses.specs.Literals.{negated, has}
+use Rattle.lv_clauses.specs.Literals.{Lit, negated, has}
 use Rattle.lv_clauses.specs.Sets.{SetValue}
 use Rattle.lv_clauses.specs.Derivations.{Step}
 use Rattle.lv_clauses.proofs.Literals.{same_lit, either}

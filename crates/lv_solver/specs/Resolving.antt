@@ -1,7 +1,6 @@
 -- Adding literals to literals.
 use Rattle.std.specs.Prelude.{◌≡◌, List, IsTrue, ◌⊎◌}
-use Rattle.lv_clauses.specs.declared.lit.Lit.{Lit}
-use Rattle.lv_clauses.specs.Literals.{negated, has}
+use Rattle.lv_clauses.specs.Literals.{Lit, negated, has}
 
 pub record HasOne (old : List Lit) (x but : Lit) (new : List Lit) : Type 0 where
   pub kept : (m : Lit) → IsTrue (has old m) → IsTrue (has new m)

@@ -1,7 +1,6 @@
 -- What a solver answers.
 use Rattle.std.specs.Prelude.{◌≡◌, ℕ, ◌+◌, ◌-◌, ◌*◌, ◌/◌, ◌^◌, ◌<◌, ◌≤◌, Bool, true, false, List, [], ◌∷◌, ◌++◌, map, length, slice_get, IsTrue, Option, Some, None}
-use Rattle.lv_clauses.specs.declared.lit.Lit.{Lit}
-use Rattle.lv_clauses.specs.Literals.{has, IsClause, IsClauseOf, IsWithin}
+use Rattle.lv_clauses.specs.Literals.{Lit, has, IsClause, IsClauseOf, IsWithin}
 use Rattle.lv_clauses.specs.Sets.{SetValue}
 use Rattle.lv_clauses.specs.Values.{IsModel}
 use Rattle.lv_clauses.specs.Derivations.{Step, IsDerivation, IsFresh}

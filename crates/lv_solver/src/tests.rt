@@ -1,6 +1,6 @@
 use crate::{Answer, solve};
 use lv_bits::NoMemory;
-use lv_clauses::{ClauseSet, Lit, are_within};
+use lv_clauses::{ClauseSet, Derivation, Lit, are_within};
 use std::alloc::Global;
 use std::test::Fail;
 
@@ -45,6 +45,14 @@ enum Kind {
     Budget,
 }
 
+/// The literals of the first line, or so many where there is none.
+fn width(log: &Derivation, none: usize) -> usize {
+    if log.len() == 0 {
+        return none;
+    }
+    log.line(0).clause().lits().len()
+}
+
 /// The kind of an answer, its lines, and the literals of the first line, or the values that are true.
 fn answer(alloc: Global, set: &ClauseSet, budget: u64) -> Result<(Kind, u64, usize), NoMemory> {
     match solve(alloc, set, budget)? {
@@ -53,25 +61,20 @@ fn answer(alloc: Global, set: &ClauseSet, budget: u64) -> Result<(Kind, u64, usi
             0,
             found.values().iter().filter(|value| **value).count(),
         )),
-        Answer::Refuted(log) => Ok((
-            Kind::Refuted,
-            log.len(),
-            if log.len() == 0 {
-                9
-            } else {
-                log.line(0).clause().lits().len()
-            },
-        )),
-        Answer::Budget(log) => Ok((
-            Kind::Budget,
-            log.len(),
-            if log.len() == 0 {
-                0
-            } else {
-                log.line(0).clause().lits().len()
-            },
-        )),
+        Answer::Refuted(log) => Ok((Kind::Refuted, log.len(), width(&log, 9))),
+        Answer::Budget(log) => Ok((Kind::Budget, log.len(), width(&log, 0))),
     }
+}
+
+/// The answer on the clauses of DIMACS.
+fn answer_on(
+    alloc: Global,
+    vars: u64,
+    dimacs: &[i64],
+    budget: u64,
+) -> Result<(Kind, u64, usize), NoMemory> {
+    let set = set_of(alloc, vars, dimacs)?;
+    answer(alloc, &set, budget)
 }
 
 #[test]
@@ -80,6 +83,7 @@ fn answers_small_sets(rt: HostRuntime) -> Result<(), Fail> {
     let one: &[i64] = &[1, 0, -1, 0];
     let four: &[i64] = &[1, 2, 0, 1, -2, 0, -1, 2, 0, -1, -2, 0];
     let chain: &[i64] = &[-3, 4, 0, -2, 3, 0, -1, 2, 0, 1, 0];
+    let falls: &[i64] = &[1, 0, -1, 2, 0, -2, 3, 0, -3, 4, 0, -4, 0];
     let cases: [(u64, &[i64], u64, Kind, u64, usize); 13] = [
         (1, one, 1, Kind::Refuted, 1, 0),
         (1, one, 0, Kind::Budget, 0, 0),
@@ -92,30 +96,14 @@ fn answers_small_sets(rt: HostRuntime) -> Result<(), Fail> {
         (0, &[0], 1, Kind::Refuted, 1, 0),
         (3, &[1, -1, 0, 1, 0, 3, 0, -2, -3, 0], 0, Kind::Model, 0, 2),
         (4, chain, 0, Kind::Model, 0, 4),
-        (
-            4,
-            &[1, 0, -1, 2, 0, -2, 3, 0, -3, 4, 0, -4, 0],
-            1,
-            Kind::Refuted,
-            1,
-            0,
-        ),
+        (4, falls, 1, Kind::Refuted, 1, 0),
         (2, &[1, 2, 0, -1, 2, 0, 1, -2, 0], 9, Kind::Model, 0, 2),
     ];
     for (k, (vars, dimacs, budget, kind, lines, count)) in cases.iter().enumerate() {
-        let Ok(set) = set_of(alloc, *vars, dimacs) else {
+        let Ok(got) = answer_on(alloc, *vars, dimacs, *budget) else {
             return Err(Fail::from("no memory"));
         };
-        let Ok(got) = answer(alloc, &set, *budget) else {
-            return Err(Fail::from("no memory"));
-        };
-        assert!(rt; got.0 == *kind, "case {k}: {:?}", got.0);
-        assert!(rt;
-            got.1 == *lines && got.2 == *count,
-            "case {k}: {} lines, {}",
-            got.1,
-            got.2
-        );
+        assert!(rt; got == (*kind, *lines, *count), "case {k}: {got:?}");
     }
     Ok(())
 }

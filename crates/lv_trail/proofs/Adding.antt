@@ -4,8 +4,7 @@ use Rattle.std.specs.Prelude.{Some, slice_get}
 use Rattle.std.specs.List.{sum_by}
 use Rattle.std.proofs.lemmas.List.{get_or-replicate, length-replicate}
 use Rattle.std.proofs.lemmas.List.Folds.{sum_by-replicate}
-use Rattle.lv_clauses.specs.declared.lit.Lit.{Lit}
-use Rattle.lv_clauses.specs.Literals.{IsClause, IsWithin}
+use Rattle.lv_clauses.specs.Literals.{Lit, IsClause, IsWithin}
 use Rattle.lv_clauses.specs.Sets.{AreClauses, numbered}
 use Rattle.lv_clauses.proofs.Sets.{get-older, get-push}
 use Rattle.lv_trail.specs.declared.store.Entry.{Entry}

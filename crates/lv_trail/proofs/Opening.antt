@@ -1,8 +1,7 @@
 -- Clauses that are open, and trails that grow.
 use Rattle.std.proofs.Common.{◌≡◌, ℕ, suc, zero, ◌<◌, Bool, true, false, not, List, [], ◌∷◌, ◌++◌, length, take, get_or, refl, sym, ◌∙◌, ap, subst, arith, ◌⊎◌, inl, inr}
 use Rattle.std.proofs.lemmas.Bool.{true≢false, cases_Bool}
-use Rattle.lv_clauses.specs.declared.lit.Lit.{Lit}
-use Rattle.lv_clauses.specs.Literals.{negated, has, Rises, IsClause}
+use Rattle.lv_clauses.specs.Literals.{Lit, negated, has, Rises, IsClause}
 use Rattle.lv_clauses.proofs.Literals.{has-at, has-head, has-later, has-cases, push-cases, push-old, push-new, same-true, same-refl}
 use Rattle.lv_clauses.specs.Literals.{same}
 use Rattle.lv_trail.specs.declared.store.Store.{Store}

@@ -2,8 +2,7 @@
 use Rattle.std.proofs.Common.{◌≡◌, ℕ, suc, zero, ◌+◌, ◌-◌, ◌<◌, ◌≤◌, true, false, not, List, [], ◌∷◌, length, take, get_or, refl, sym, ◌∙◌, ap, subst, arith, inl, inr, length-take}
 use Rattle.std.proofs.Math.Bool.{beq}
 use Rattle.std.proofs.lemmas.Bool.{cases_eq, cases_Bool, true≢false}
-use Rattle.lv_clauses.specs.declared.lit.Lit.{Lit}
-use Rattle.lv_clauses.specs.Literals.{negated, has}
+use Rattle.lv_clauses.specs.Literals.{Lit, negated, has}
 use Rattle.lv_clauses.proofs.Literals.{same_lit, either, has-head, has-later, has-cases, both_true, beq-true, beq-refl}
 use Rattle.lv_trail.specs.declared.store.Entry.{Entry}
 use Rattle.lv_trail.specs.declared.store.Store.{Store}

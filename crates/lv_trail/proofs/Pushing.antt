@@ -4,13 +4,13 @@ use Rattle.std.specs.List.{sum_by}
 use Rattle.std.proofs.lemmas.Bool.{cases_eq, ne_eqb}
 use Rattle.std.proofs.lemmas.List.{take-set-le, take_more_set}
 use Rattle.std.proofs.lemmas.List.Sums.{sum_by-set, get_or-le-sum_by}
-use Rattle.lv_clauses.specs.declared.lit.Lit.{Lit}
 use Rattle.lv_clauses.specs.Sets.{AreClauses}
 use Rattle.lv_trail.specs.declared.store.Entry.{Entry}
 use Rattle.lv_trail.specs.declared.store.Store.{Store}
 use Rattle.lv_trail.specs.Store.{entries, free_of, IsSound, IsPlaced, IsFree, IsStep, step_by}
 use Rattle.lv_trail.specs.Trail.{no_entry, truths, IsReason}
 use Rattle.lv_trail.proofs.Placing.{free-place}
+use Rattle.lv_clauses.specs.Literals.{Lit}
 
 pub len-below : (t : Store) → IsSound t → (l : Lit) → IsFree t l → t.len < t.vars
 len-below t s l f =

@@ -1,12 +1,12 @@
 -- What holds of a sound store holds of the trail that is seen of it.
 use Rattle.std.proofs.Common.{◌≡◌, ℕ, ◌-◌, ◌<◌, ◌≤◌, List, length, take, get_or, sym, ◌∙◌, ap, subst, arith}
 use Rattle.std.proofs.lemmas.List.{take-take}
-use Rattle.lv_clauses.specs.declared.lit.Lit.{Lit}
 use Rattle.lv_trail.specs.declared.store.Entry.{Entry}
 use Rattle.lv_trail.specs.declared.store.Store.{Store}
 use Rattle.lv_trail.specs.Trail.{TrailValue, no_entry, entry, truths, IsReason, IsTrail}
 use Rattle.lv_trail.specs.Store.{entries, IsSound}
 use Rattle.lv_trail.proofs.Placing.{get-take, entries-length}
+use Rattle.lv_clauses.specs.Literals.{Lit}
 
 abbrev pub view_of : Store → TrailValue
 view_of t = record { vars = t.vars; clauses = t.clauses.items; entries = entries t; level = t.level }

@@ -1,7 +1,6 @@
 -- What a clause is where some literals are true.
 use Rattle.std.specs.Prelude.{◌≡◌, ◌<◌, false, List, IsTrue, ◌⊎◌}
-use Rattle.lv_clauses.specs.declared.lit.Lit.{Lit}
-use Rattle.lv_clauses.specs.Literals.{negated, has}
+use Rattle.lv_clauses.specs.Literals.{Lit, negated, has}
 use Rattle.lv_trail.specs.declared.status.Status.{Status}
 use Rattle.lv_trail.specs.declared.status.Status.TheVariants.{False, Unit as One, Open}
 use Rattle.lv_trail.specs.declared.store.Store.{Store}

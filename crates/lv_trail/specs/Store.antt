@@ -1,8 +1,7 @@
 -- How a trail is kept: slots for the literals, and the place of each variable.
 use Rattle.std.specs.Prelude.{◌≡◌, ℕ, suc, zero, ◌+◌, ◌-◌, ◌<◌, ◌≤◌, false, cond, eqb, List, ◌++◌, take, length, get_or, Some}
 use Rattle.std.specs.List.{sum_by}
-use Rattle.lv_clauses.specs.declared.lit.Lit.{Lit}
-use Rattle.lv_clauses.specs.Literals.{negated, has}
+use Rattle.lv_clauses.specs.Literals.{Lit, negated, has}
 use Rattle.lv_clauses.specs.Sets.{AreClauses, numbered}
 use Rattle.lv_trail.specs.declared.store.Entry.{Entry}
 use Rattle.lv_trail.specs.Trail.{no_entry, truths, IsReason, AllForced, IsFalsified, IsClosed}

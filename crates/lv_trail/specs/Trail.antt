@@ -1,7 +1,6 @@
 -- A trail: clauses, and the literals that are true in the order in which they became so.
 use Rattle.std.specs.Prelude.{◌≡◌, ℕ, ◌+◌, ◌<◌, ◌≤◌, Bool, true, false, List, [], ◌∷◌, ◌++◌, map, take, length, get_or, slice_get, IsTrue, Option, Some, None}
-use Rattle.lv_clauses.specs.declared.lit.Lit.{Lit}
-use Rattle.lv_clauses.specs.Literals.{negated, has}
+use Rattle.lv_clauses.specs.Literals.{Lit, negated, has}
 use Rattle.lv_clauses.specs.Sets.{AreClauses, numbered}
 use Rattle.lv_trail.specs.declared.store.Entry.{Entry}
 use Rattle.lv_trail.specs.declared.store.Reached.{Reached}

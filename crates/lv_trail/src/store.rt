@@ -1,6 +1,5 @@
 ghost use Rattle.std.specs.Prelude.{◌≡◌, ℕ, ◌+◌, ◌-◌, ◌<◌, ◌≤◌, List, [], ◌∷◌, ◌++◌, length, take, get_or, slice_get, IfOk, OnOk, OnErr, IsTrue, Some, false, true};
-ghost use Rattle.lv_clauses.specs.declared.lit.Lit.{Lit as Literal};
-ghost use Rattle.lv_clauses.specs.Literals.{has, negated, IsClause, IsWithin};
+ghost use Rattle.lv_clauses.specs.Literals.{Lit as Literal, has, negated, IsClause, IsWithin};
 ghost use Rattle.lv_clauses.specs.Sets.{numbered};
 ghost use Rattle.lv_trail.specs.Store.{entries, IsSound, IsFree, IsStep, IsSame, IsReached, IsCut, IsGrown, IsPopped};
 ghost use Rattle.lv_trail.specs.Trail.{no_entry, truths, value_in, IsReasonOf, IsLevelOf, IsClosed};
@@ -274,13 +273,14 @@ impl Store {
     /// Adds a clause, and gives its number.
     pub fn add(&mut self, clause: Clause) -> Result<u64, NoMemory>
         requires sound { IsSound self.old }
-        requires clause { IsClause clause }
         requires within { IsWithin clause self.old.vars }
         ensures sound { IsSound self.new }
         ensures ok { OnOk result ((self.new.clauses.items ≡ self.old.clauses.items ++ clause ∷ []) × (entries self.new ≡ entries self.old) × (self.new.level ≡ self.old.level) × (self.new.vars ≡ self.old.vars)) }
         ensures number { IfOk result (λ n. n ≡ length self.old.clauses.items + 1) }
         ensures err { OnErr result (IsSame self.old self.new × (entries self.new ≡ entries self.old) × (self.new.level ≡ self.old.level)) }
     {
+        // Tells that the literals are sorted.
+        let _ = clause.lits();
         self.clauses.reserve(1)?;
         self.clauses.push_reserved(clause);
         Ok(self.clauses.len() as u64)

@@ -34,7 +34,7 @@ fn decide(trail: &mut Trail, vars: u64, lit: Lit) -> Option<Reached>
     if trail.propagate() != Reached::Closed {
         return None;
     }
-    if lit.var() < 1 || lit.var() > vars || trail.value(lit.var()).is_some() {
+    if lit.var() > vars || trail.value(lit.var()).is_some() {
         return None;
     }
     trail.decide(lit);

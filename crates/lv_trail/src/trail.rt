@@ -1,5 +1,5 @@
 ghost use Rattle.std.specs.Prelude.{◌≡◌, ◌≢◌, ℕ, ◌+◌, ◌<◌, ◌≤◌, [], ◌∷◌, ◌++◌, length, IfOk, OnOk, OnErr, Some, None};
-ghost use Rattle.lv_clauses.specs.Literals.{IsClause, IsWithin};
+ghost use Rattle.lv_clauses.specs.Literals.{IsWithin};
 ghost use Rattle.lv_clauses.specs.Sets.{numbered};
 ghost use Rattle.lv_trail.specs.Trail.{entry, truths, value_in, IsTrail, IsFree, IsSame, IsGrown, IsReached, IsCut, IsClosed, IsReasonOf, IsLevelOf};
 
@@ -116,8 +116,7 @@ impl Trail {
 
     /// Adds a clause, and gives its number.
     pub fn add(&mut self, clause: Clause) -> Result<u64, NoMemory>
-        requires sorted { IsClause clause }
-        requires within { IsWithin clause self.old.vars }
+        requires { IsWithin clause self.old.vars }
         ensures valid { IsTrail self.new }
         ensures ok { OnOk result (self.new ≡ record self.old { clauses = self.old.clauses ++ clause ∷ [] }) }
         ensures number { IfOk result (λ n. n ≡ length self.old.clauses + 1) }

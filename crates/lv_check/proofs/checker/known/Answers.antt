@@ -1,9 +1,9 @@
 use Rattle.std.proofs.Common.{◌≡◌, ℕ, ◌+◌, ◌-◌, List, length, sym, arith, ap, ◌∙◌}
 use Rattle.std.specs.Prelude.{slice_get}
-use Rattle.lv_clauses.specs.declared.lit.Lit.{Lit}
 use Rattle.lv_clauses.specs.Derivations.{Step, known_at}
 use Rattle.lv_check.proofs.Known.{known-line, known-past, number}
 use Rattle.lv_check.proofs.checker.known.Goals as goal
+use Rattle.lv_clauses.specs.Literals.{Lit}
 
 pub returns-then-at-k : goal.returns-then-at-k
 returns-then-at-k c =

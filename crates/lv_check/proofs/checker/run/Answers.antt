@@ -2,8 +2,7 @@ use Rattle.std.proofs.Common.{◌≡◌, ℕ, ◌<◌, ◌∷◌, [], List, leng
 use Rattle.std.specs.Prelude.{Some, slice_get}
 use Rattle.std.proofs.lemmas.Option.{slice_get_within}
 use Rattle.std.proofs.lemmas.Bool.{cases_eq, eqb-true, eqb-false}
-use Rattle.lv_clauses.specs.declared.lit.Lit.{Lit}
-use Rattle.lv_clauses.specs.Literals.{IsWithin}
+use Rattle.lv_clauses.specs.Literals.{Lit, IsWithin}
 use Rattle.lv_clauses.specs.Derivations.{Step, Follows, known_at}
 use Rattle.lv_check.specs.Answer.{FollowsAt}
 use Rattle.lv_check.proofs.checker.run.Goals as goal

@@ -1,7 +1,6 @@
 use Rattle.std.proofs.Common.{◌≡◌, ℕ, suc, ◌+◌, ◌-◌, ◌∷◌, [], List, true, drop, get_or, subst, sym, arith, ap, ◌∙◌, add-one}
 use Rattle.std.proofs.Math.Seq.{drop-cons}
-use Rattle.lv_clauses.specs.declared.lit.Lit.{Lit}
-use Rattle.lv_clauses.specs.Literals.{has}
+use Rattle.lv_clauses.specs.Literals.{Lit, has}
 use Rattle.lv_clauses.specs.Derivations.{known_at, walks}
 use Rattle.lv_clauses.specs.Units.{remaining}
 use Rattle.lv_clauses.proofs.Literals.{has-head}

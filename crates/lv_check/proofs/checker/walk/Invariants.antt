@@ -1,8 +1,8 @@
 use Rattle.std.proofs.Common.{◌≡◌, ◌+◌, List, drop}
-use Rattle.lv_clauses.specs.declared.lit.Lit.{Lit}
 use Rattle.lv_clauses.specs.Derivations.{known_at, walks}
 use Rattle.lv_check.specs.Marks.{Tells, AreBelow}
 use Rattle.lv_check.proofs.checker.walk.Given as goal
+use Rattle.lv_clauses.specs.Literals.{Lit}
 
 abbrev pub invariant-loop-i : goal.invariant-loop-i
 invariant-loop-i l = record {

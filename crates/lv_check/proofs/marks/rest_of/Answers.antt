@@ -1,21 +1,19 @@
-use Rattle.std.proofs.Common.{◌≡◌, ℕ, suc, ◌≤◌, ◌++◌, ◌∷◌, List, true, false, drop, get_or, length, subst, sym, arith, ap, refl, ◌∙◌, add-one}
-use Rattle.std.proofs.Math.Seq.{drop-cons}
-use Rattle.lv_clauses.specs.declared.lit.Lit.{Lit}
-use Rattle.lv_clauses.specs.Literals.{has, negated}
+use Rattle.std.proofs.Common.{◌≡◌, ℕ, suc, ◌≤◌, ◌++◌, ◌∷◌, List, true, false, drop, length, subst, sym, ap, refl, ◌∙◌, add-one}
+use Rattle.lv_clauses.specs.Literals.{Lit, has, negated}
 use Rattle.lv_clauses.specs.Units.{remaining}
 use Rattle.lv_check.specs.declared.marks.Mark.{Mark}
 use Rattle.lv_check.specs.declared.marks.Rest.{Rest}
 use Rattle.lv_check.specs.declared.marks.Rest.TheVariants.{Nothing, One, More}
 use Rattle.lv_check.specs.Marks.{Tells, so_far, IsRest, marked}
-use Rattle.lv_clauses.proofs.Literals.{has-at, none}
+use Rattle.lv_clauses.proofs.Literals.{has-item, drop-item}
 use Rattle.lv_check.proofs.Telling.{remaining-false, remaining-free}
 use Rattle.lv_check.proofs.marks.rest_of.Goals as goal
 use Rattle.lv_check.proofs.marks.rest_of.Goals.{then-not-is_true+in-Nothing, else-not-is_true}
 
 pub is_true-requires : goal.is_true-requires
 is_true-requires c =
-    let x : Lit = get_or c.args.clause.now c.loop-x.x-index none in
-    rw c.negated.ensures (c.requires x (has-at c.args.clause.now c.loop-x.x-index none (omega arith)))
+    let x : Lit = c.x-item.result in
+    rw c.negated.ensures (c.requires x (has-item c.args.clause.now c.loop-x.x-index x c.loop-x-test.true c.x-item.is))
 
 more : (r : Rest) (x : Lit) (d : List Lit) → (r ≡ Nothing → ⊥) → (r ≡ More → ⊥) → (c : List Lit) → so_far r ++ (x ∷ d) ≡ c → IsRest c More
 more Nothing x d a b c e = absurd (a refl)
@@ -30,9 +28,9 @@ pub returns-in_default : goal.returns-in_default
 returns-in_default c =
     let cl : List Lit = c.args.clause.now in
     let i : ℕ = c.loop-x.x-index in
-    let x : Lit = get_or cl i none in
-    let dc : drop i cl ≡ x ∷ drop (suc i) cl = drop-cons cl i none (omega arith) in
-    let w = c.requires x (has-at cl i none (omega arith)) in
+    let x : Lit = c.x-item.result in
+    let dc : drop i cl ≡ x ∷ drop (suc i) cl = drop-item cl i x c.loop-x-test.true c.x-item.is in
+    let w = c.requires x (has-item cl i x c.loop-x-test.true c.x-item.is) in
     record {
       rest = λ t told.
           let f : has t (negated x) ≡ false = free c.args.marks.now c.args.line t (negated x) told w.0 w.1 ∙ (ap (marked c.args.marks.now c.args.line) (sym c.negated.ensures) ∙ (sym c.is_true.ensures ∙ c.if-not-is_true.true)) in
@@ -46,9 +44,9 @@ pub loop-x-preserved : goal.loop-x-preserved
 loop-x-preserved c =
     let cl : List Lit = c.args.clause.now in
     let i : ℕ = c.loop-x.x-index in
-    let x : Lit = get_or cl i none in
-    let dc : drop i cl ≡ x ∷ drop (suc i) cl = drop-cons cl i none (omega arith) in
-    let w = c.requires x (has-at cl i none (omega arith)) in
+    let x : Lit = c.x-item.result in
+    let dc : drop i cl ≡ x ∷ drop (suc i) cl = drop-item cl i x c.loop-x-test.true c.x-item.is in
+    let w = c.requires x (has-item cl i x c.loop-x-test.true c.x-item.is) in
     let inv = c.loop-x.invariant in
     elim c.if-not-is_true.branch [
       | then-not-is_true+in-Nothing w' ↦

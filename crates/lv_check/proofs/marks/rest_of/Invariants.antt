@@ -1,9 +1,9 @@
 use Rattle.std.proofs.Common.{◌≡◌, List, ◌++◌, drop, length}
-use Rattle.lv_clauses.specs.declared.lit.Lit.{Lit}
 use Rattle.lv_clauses.specs.Units.{remaining}
 use Rattle.lv_check.specs.declared.marks.Rest.TheVariants.{More}
 use Rattle.lv_check.specs.Marks.{Tells, so_far, IsRestWithin}
 use Rattle.lv_check.proofs.marks.rest_of.Given as goal
+use Rattle.lv_clauses.specs.Literals.{Lit}
 
 abbrev pub invariant-loop-x : goal.invariant-loop-x
 invariant-loop-x l = record {

@@ -2,8 +2,7 @@ use Rattle.std.proofs.Common.{◌≡◌, ℕ, ◌-◌, ◌<◌, ◌≤◌, ◌++
 use Rattle.std.specs.Prelude.{IsTrue, Some}
 use Rattle.std.proofs.lemmas.Bool.{cases_eq, true≢false}
 use Rattle.std.proofs.lemmas.List.{reverse-append}
-use Rattle.lv_clauses.specs.declared.lit.Lit.{Lit}
-use Rattle.lv_clauses.specs.Literals.{has, negated, IsClause}
+use Rattle.lv_clauses.specs.Literals.{Lit, has, negated, IsClause}
 use Rattle.lv_clauses.specs.Sets.{numbered}
 use Rattle.lv_trail.specs.Trail.{entry, truths}
 use Rattle.lv_solver.specs.Resolving.{IsResolvent}

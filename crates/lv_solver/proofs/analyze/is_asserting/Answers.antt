@@ -1,15 +1,14 @@
-use Rattle.std.proofs.Common.{◌≡◌, List, take, get_or, sym, ◌∙◌, subst, arith}
+use Rattle.std.proofs.Common.{◌≡◌, List, take, sym, ◌∙◌, subst, arith}
 use Rattle.std.specs.Prelude.{IsTrue, Option, Some, None, MatchOption}
 use Rattle.std.proofs.lemmas.Grind.{common_steps}
-use Rattle.lv_clauses.specs.declared.lit.Lit.{Lit}
-use Rattle.lv_clauses.specs.Literals.{has}
-use Rattle.lv_clauses.proofs.Literals.{has-at, none}
+use Rattle.lv_clauses.specs.Literals.{Lit, has}
+use Rattle.lv_clauses.proofs.Literals.{has-item}
 use Rattle.lv_trail.specs.Trail.{TrailValue}
 use Rattle.lv_solver.specs.Learning.{IsLate, IsAsserting}
 use Rattle.lv_solver.proofs.analyze.is_asserting.Goals as goal
 
 pub level_of-requires-clause-false_lit : goal.level_of-requires-clause-false_lit
-level_of-requires-clause-false_lit c = c.requires.false_all (get_or c.args.lits.now c.loop-x.x-index none) (has-at c.args.lits.now c.loop-x.x-index none (omega arith))
+level_of-requires-clause-false_lit c = c.requires.false_all c.x-item.result (has-item c.args.lits.now c.loop-x.x-index c.x-item.result c.loop-x-test.true c.x-item.is)
 
 ended : (t : TrailValue) (c : List Lit) (o : Option Lit) → MatchOption o ((m : Lit) → IsTrue (has c m) → IsLate t m → ⊥) (λ z. (m : Lit) → IsTrue (has c m) → IsLate t m → m ≡ z) → IsAsserting t c
 ended t c None h l m i j a b = absurd (h l i a)

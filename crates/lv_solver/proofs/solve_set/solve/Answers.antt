@@ -51,8 +51,8 @@ returns-then-root-2 c =
           (learnt-nothing t run.sound h.lits h.hints cl learnt h.of (sym c.top_level-top.ensures ∙ c.if-root-2.true)))
     ]
 
-pub add-requires-clause-within : goal.add-requires-clause-within
-add-requires-clause-within c =
+pub add-requires : goal.add-requires
+add-requires c =
     let h = c.in_ok-clause-in-Conflict.ensures in
     λ l i. let w = false-within c.propagate.new.self c.in-Conflict.ensures.valid h.lits h.learnt.false_all l (sym (h.of.members l) ∙ i) in (w.0, omega (arith, w.1, c.back.ensures.cut.same.vars))
 

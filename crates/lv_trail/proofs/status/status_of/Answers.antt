@@ -1,36 +1,39 @@
-use Rattle.std.proofs.Common.{◌≡◌, ℕ, ◌+◌, ◌++◌, ◌∷◌, [], List, false, take, get_or, sym, ◌∙◌, ap, subst, arith}
-use Rattle.std.proofs.lemmas.List.{take_more}
-use Rattle.lv_clauses.specs.declared.lit.Lit.{Lit}
-use Rattle.lv_clauses.specs.Literals.{has, negated}
+use Rattle.std.proofs.Common.{◌≡◌, ℕ, ◌+◌, ◌++◌, ◌∷◌, [], List, false, take, get_or, sym, ◌∙◌, ap, subst, inl}
+use Rattle.lv_clauses.specs.Literals.{Lit, has, negated}
 use Rattle.lv_trail.specs.Store.{entries}
 use Rattle.lv_trail.specs.Trail.{truths}
 use Rattle.lv_trail.specs.Status.{IsStatus}
-use Rattle.lv_clauses.proofs.Literals.{has-at, none}
+use Rattle.lv_clauses.proofs.Literals.{has-item, take-item}
 use Rattle.lv_trail.proofs.Opening.{two-open, status-false, status-unit}
 use Rattle.lv_trail.proofs.status.status_of.Goals as goal
 use Rattle.lv_trail.proofs.status.status_of.Goals.{then-not-is_true+in-False, else-not-is_true}
 
 pub is_true-requires-clause-within : goal.is_true-requires-clause-within
-is_true-requires-clause-within c = c.requires.within (get_or c.args.clause.now c.loop-x.x-index none) (has-at c.args.clause.now c.loop-x.x-index none (omega arith))
+is_true-requires-clause-within c = c.requires.within c.x-item.result (has-item c.args.clause.now c.loop-x.x-index c.x-item.result c.loop-x-test.true c.x-item.is)
 
 pub is_true-requires-in-loop-x-clause-within : goal.is_true-requires-in-loop-x-clause-within
-is_true-requires-in-loop-x-clause-within c = rw c.negated.ensures (c.requires.within (get_or c.args.clause.now c.loop-x.x-index none) (has-at c.args.clause.now c.loop-x.x-index none (omega arith)))
+is_true-requires-in-loop-x-clause-within c = rw c.negated.ensures (c.requires.within c.x-item.result (has-item c.args.clause.now c.loop-x.x-index c.x-item.result c.loop-x-test.true c.x-item.is))
+
+pub returns-then-is_true : goal.returns-then-is_true
+returns-then-is_true c = inl (c.x-item.result, has-item c.args.clause.now c.loop-x.x-index c.x-item.result c.loop-x-test.true c.x-item.is, sym c.is_true.ensures ∙ c.if-is_true.true)
 
 pub returns-in_default : goal.returns-in_default
 returns-in_default c =
     let t = truths (entries c.args.store.now) in
     let cl : List Lit = c.args.clause.now in
     let i : ℕ = c.loop-x.x-index in
-    let f : has t (negated (get_or cl i none)) ≡ false = ap (has t) (sym c.negated.ensures) ∙ (sym c.is_true-in-loop-x.ensures ∙ c.if-not-is_true.true) in
-    two-open t cl i none c.loop-x.found c.requires.clause (omega arith) c.loop-x.invariant.so_far c.in_default.not-False c.loop-x.invariant.few f
+    let x : Lit = c.x-item.result in
+    let f : has t (negated x) ≡ false = ap (has t) (sym c.negated.ensures) ∙ (sym c.is_true-in-loop-x.ensures ∙ c.if-not-is_true.true) in
+    let f' : has t (negated (get_or cl i x)) ≡ false = ap (λ z. has t (negated z)) (sym c.x-item.is) ∙ f in
+    two-open t cl i x c.loop-x.found c.requires.clause c.loop-x-test.true c.loop-x.invariant.so_far c.in_default.not-False c.loop-x.invariant.few f'
 
 pub loop-x-preserved : goal.loop-x-preserved
 loop-x-preserved c =
     let t = truths (entries c.args.store.now) in
     let cl : List Lit = c.args.clause.now in
     let i : ℕ = c.loop-x.x-index in
-    let x : Lit = get_or cl i none in
-    let e : take (i + 1) cl ≡ take i cl ++ x ∷ [] = take_more cl i none (omega arith) in
+    let x : Lit = c.x-item.result in
+    let e : take (i + 1) cl ≡ take i cl ++ x ∷ [] = take-item cl i x c.loop-x-test.true c.x-item.is in
     let inv = c.loop-x.invariant in
     let is : has t (negated x) ≡ c.is_true-in-loop-x.result = ap (has t) (sym c.negated.ensures) ∙ sym c.is_true-in-loop-x.ensures in
     elim c.if-not-is_true.branch [

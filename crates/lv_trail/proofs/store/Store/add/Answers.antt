@@ -6,4 +6,4 @@ pub returns-in_err-reserve-clause-sound : goal.returns-in_err-reserve-clause-sou
 returns-in_err-reserve-clause-sound c = kept c.args.self.now c.requires.sound _ refl refl refl refl refl c.reserve.ensures.items
 
 pub returns-clause-sound : goal.returns-clause-sound
-returns-clause-sound c = added c.args.self.now c.args.clause c.requires.sound c.requires.clause c.requires.within _ refl refl refl refl refl (c.push_reserved.ensures.items ∙ ap (λ z. z ++ c.args.clause ∷ []) c.reserve.ensures.items)
+returns-clause-sound c = added c.args.self.now c.args.clause c.requires.sound c.lits.ensures.kept c.requires.within _ refl refl refl refl refl (c.push_reserved.ensures.items ∙ ap (λ z. z ++ c.args.clause ∷ []) c.reserve.ensures.items)

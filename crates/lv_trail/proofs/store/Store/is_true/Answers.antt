@@ -10,7 +10,7 @@ returns-then-place-eq0 c =
     let l = c.args.lit in
     let d : ℕ = c.index-place.result.now in
     let at : l.var - 1 < length t.places.items = omega (arith, c.requires.within, c.requires.sound.places) in
-    let is : d ≡ get_or t.places.items (l.var - 1) d = c.index-place.ensures ∙ ap (λ z. get_or t.places.items (z - 1) d) c.var.ensures in
+    let is : d ≡ get_or t.places.items (l.var - 1) d = c.index-place.ensures ∙ ap (λ z. get_or t.places.items (z - 1) d) c.var.ensures.is in
     none-placed t c.requires.sound l (get-any t.places.items (l.var - 1) 0 d at ∙ (sym is ∙ c.if-place-eq0.true))
 
 pub returns : goal.returns
@@ -20,7 +20,7 @@ returns c =
     let s = c.requires.sound in
     let p : ℕ = c.index-place.result.now in
     let at : l.var - 1 < length t.places.items = omega (arith, c.requires.within, s.places) in
-    let is' : p ≡ get_or t.places.items (l.var - 1) p = c.index-place.ensures ∙ ap (λ z. get_or t.places.items (z - 1) p) c.var.ensures in
+    let is' : p ≡ get_or t.places.items (l.var - 1) p = c.index-place.ensures ∙ ap (λ z. get_or t.places.items (z - 1) p) c.var.ensures.is in
     let is : get_or t.places.items (l.var - 1) 0 ≡ p = get-any t.places.items (l.var - 1) 0 p at ∙ sym is' in
     let one : 1 ≤ p = omega (arith, c.if-place-eq0.false) in
     let f = s.found (l.var - 1) (omega (arith, c.requires.within)) (omega (arith, is)) in

@@ -2,8 +2,7 @@ use Rattle.std.proofs.Common.{◌≡◌, ℕ, ◌<◌, ◌++◌, ◌∷◌, [], 
 use Rattle.std.specs.Prelude.{Some, slice_get}
 use Rattle.std.proofs.lemmas.List.{take_more}
 use Rattle.std.proofs.lemmas.Option.{get_or_from_slice_get}
-use Rattle.lv_clauses.specs.declared.lit.Lit.{Lit}
-use Rattle.lv_clauses.specs.Literals.{IsClause, IsWithin}
+use Rattle.lv_clauses.specs.Literals.{Lit, IsClause, IsWithin}
 use Rattle.lv_trail.proofs.Adding.{are-clauses-push, fresh, number}
 use Rattle.lv_trail.proofs.store.Store.new.Goals as goal
 

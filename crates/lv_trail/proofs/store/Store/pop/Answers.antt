@@ -12,7 +12,7 @@ returns c =
     let last : ℕ = t.len - 1 in
     let below : last < length t.slots.items = omega (arith, c.requires.some, s.slots, s.free) in
     let e = get-any t.slots.items last no_entry c.index.result.now below ∙ sym c.index.ensures in
-    popped t _ s last (omega (arith, c.requires.some)) refl refl refl refl (ap (λ z. set t.places.items (z - 1) 0) (c.var-var.ensures ∙ ap (λ z. z.lit.var) (sym e)))
+    popped t _ s last (omega (arith, c.requires.some)) refl refl refl refl (ap (λ z. set t.places.items (z - 1) 0) (c.var-var.ensures.is ∙ ap (λ z. z.lit.var) (sym e)))
     (elim c.if-last-eq0.branch [
       | then-last-eq0 w ↦ (λ z. w.self-is, λ z. absurd (omega (arith, w.if-last-eq0.true)))
       | else-last-eq0 w ↦ (

@@ -2,7 +2,6 @@ use Rattle.std.proofs.Common.{◌≡◌, ℕ, ◌<◌, List, [], length, get_or,
 use Rattle.std.specs.Prelude.{Some, slice_get}
 use Rattle.std.proofs.lemmas.Bool.{cases_eq}
 use Rattle.std.proofs.lemmas.Option.{slice_get-get_or, slice_get_within}
-use Rattle.lv_clauses.specs.declared.lit.Lit.{Lit}
 use Rattle.lv_trail.specs.Store.{entries}
 use Rattle.lv_trail.specs.Trail.{truths}
 use Rattle.lv_trail.specs.Status.{IsOpen}
@@ -10,6 +9,7 @@ use Rattle.lv_trail.proofs.Growing.{grown-more}
 use Rattle.lv_trail.proofs.Opening.{open-not-false, open-not-unit}
 use Rattle.lv_trail.proofs.store.Store.propagate.Goals as goal
 use Rattle.lv_trail.proofs.store.Store.propagate.Goals.{in-Pushed, in-Kept}
+use Rattle.lv_clauses.specs.Literals.{Lit}
 
 pub returns-in-Falsified-clause-grown : goal.returns-in-Falsified-clause-grown
 returns-in-Falsified-clause-grown c = grown-more c.args.self.now c.loop-k-2.self c.look.new.self c.loop-k-2.invariant.grown c.look.ensures.grown

@@ -1,10 +1,10 @@
 use Rattle.std.proofs.Common.{◌≡◌, ℕ, ◌-◌, ◌<◌, ◌≤◌, List, true, false, length}
 use Rattle.std.specs.Prelude.{Some, slice_get}
-use Rattle.lv_clauses.specs.declared.lit.Lit.{Lit}
 use Rattle.lv_trail.specs.Store.{entries, IsGrown}
 use Rattle.lv_trail.specs.Trail.{truths}
 use Rattle.lv_trail.specs.Status.{IsOpen}
 use Rattle.lv_trail.proofs.store.Store.propagate.Given as goal
+use Rattle.lv_clauses.specs.Literals.{Lit}
 
 abbrev pub invariant-loop-k-2 : goal.invariant-loop-k-2
 invariant-loop-k-2 l = record {

@@ -1,0 +1,5 @@
+pub mod Grammar
+pub mod Spelling
+pub mod Sets
+pub mod Reading
+pub mod Facts

@@ -37,7 +37,7 @@ pub record Facts (b : Base) (t : Table b) (l : Language b) {A : Type 0} (g : Gra
   pub witness : (us : List b.Token) × (o : Bool) × (x : A) × IsSpelled b l g us o x
 
 -- the same rules and leaves, within limits
-pub record IsWithin (b : Base) (low all : Language b) : Type 0 where
+pub record IsWithin (b : Base) (low all : Language b) : Type 1 where
   pub rules : low.rules ≡ all.rules
   pub leaves : (k : b.Leaf) (us : List b.Token) (x : b.LeafTree k) → low.leaves k us x → all.leaves k us x
   pub free : (k : ℕ) → all.limits k ≡ any

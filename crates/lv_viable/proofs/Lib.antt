@@ -1,0 +1,4 @@
+pub mod Cuts
+pub mod Readers
+pub mod Pairs
+pub mod Straight

@@ -1,11 +1,19 @@
 //! Readers that read as far as they can.
 #![tactic(auto)]
 
-ghost use Rattle.std.specs.Prelude.{◌≡◌, ℕ, true, []};
-ghost use Rattle.lv_viable.specs.Sets.{some_of};
-ghost use Rattle.lv_viable.specs.Reading.{Fails};
+ghost use Rattle.std.specs.Prelude.{◌≡◌, List};
+ghost use Rattle.lv_viable.specs.Grammar.{Base, none};
+ghost use Rattle.lv_viable.specs.Spelling.{Language};
+ghost use Rattle.lv_viable.specs.Reading.{Reads};
 
-/// A law.
-pub fn law()
-    ensures { some_of (λ (n : ℕ). true) [] ≡ some_of (λ (n : ℕ). true) [] }
+/// Tokens that are read by a grammar.
+pub trait Tokens {
+    ghost base: { Base };
+
+    ghost all: { Language base };
+}
+
+/// Nothing is always read.
+pub fn nothing_is_read<T: Tokens>()
+    ensures { (ts : List T.base.Token) → Reads T.base T.all T.all none ts tt ts }
 {}

@@ -1,0 +1,6 @@
+use Rattle.lv_viable.proofs.Readers.{none_reads}
+use Rattle.lv_viable.proofs.Straight
+use Rattle.lv_viable.proofs.nothing_is_read.Goals as goal
+
+pub returns : goal.returns
+returns c g = none_reads

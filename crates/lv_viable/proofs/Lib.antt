@@ -2,3 +2,5 @@ pub mod Cuts
 pub mod Readers
 pub mod Pairs
 pub mod Straight
+pub mod Choices
+pub mod Repeats

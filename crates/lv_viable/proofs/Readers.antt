@@ -10,13 +10,11 @@ use Rattle.lv_viable.proofs.Cuts.{nil_cons, head_of}
 abbrev pub Spelled : (b : Base) (l : Language b) {A : Type 0} → Gram b A → List b.Token → Type 0
 Spelled b l {A} g ts = (o : Bool) × (x : A) × IsSpelled b l g ts o x
 
--- no tree begins with the next token
-pub record Off (b : Base) (l : Language b) {A : Type 0} (g : Gram b A) (ts : List b.Token) : Type 0 where
-  pub off : (m : b.Token) (us vs : List b.Token) → ts ≡ m ∷ us → Spelled b l g (m ∷ vs) → ⊥
-
--- no tree is spelled by nothing
-pub record NotEmpty (b : Base) (l : Language b) {A : Type 0} (g : Gram b A) : Type 0 where
-  pub some : Spelled b l g [] → ⊥
+-- no tree begins with the next token, or is spelled by nothing; and those within limits are among the others
+pub record Absent (b : Base) (all low : Language b) {A : Type 0} (g : Gram b A) (ts : List b.Token) : Type 0 where
+  pub off : (m : b.Token) (us vs : List b.Token) → ts ≡ m ∷ us → Spelled b all g (m ∷ vs) → ⊥
+  pub some : Spelled b all g [] → ⊥
+  pub within : (us : List b.Token) → Spelled b low g us → Spelled b all g us
 
 -- some tree begins with the next token
 pub record Opens (b : Base) (l : Language b) {A : Type 0} (g : Gram b A) (ts : List b.Token) : Type 0 where
@@ -26,8 +24,8 @@ pub record Opens (b : Base) (l : Language b) {A : Type 0} (g : Gram b A) (ts : L
   pub alive : Begins b l g (token ∷ [])
 
 -- where no tree begins with the next token, or there is none, nothing is read there
-pub fails_off : {b : Base} {all : Language b} {A : Type 0} {g : Gram b A} {ts : List b.Token} → NotEmpty b all g → Off b all g ts → Fails b all g ts ts
-fails_off {b} {all} {A} {g} {ts} s f = record {
+pub absent_fails : {b : Base} {all low : Language b} {A : Type 0} {g : Gram b A} {ts : List b.Token} → Absent b all low g ts → Fails b all g ts ts
+absent_fails {b} {all} {low} {A} {g} {ts} f = record {
   front = [];
   cut = refl;
   dead = λ t us e c. f.off t us c.more e (c.ending, c.tree, c.spelled);
@@ -35,7 +33,7 @@ fails_off {b} {all} {A} {g} {ts} s f = record {
 }
   where
     nothing : (front others : List b.Token) → ts ≡ front ++ others → Spelled b all g front → ⊥
-    nothing [] others e c = s.some c
+    nothing [] others e c = f.some c
     nothing (m ∷ front) others e c = f.off m (front ++ others) front e c
 
 -- ---- nothing
@@ -66,17 +64,21 @@ one_reads {b} {all} {low} p t us f = record {
 true_false : true ≡ false → ⊥
 true_false e = cc
 
-pub one_off : {b : Base} {all : Language b} (p : b.Shape) (ts : List b.Token) → ((t : b.Token) (us : List b.Token) → ts ≡ t ∷ us → b.fits p t ≡ false) → Off b all (one p) ts
-one_off {b} {all} p ts f = record { off = λ m us vs e c. clash m vs c.1 c.2.0 c.2.1 (f m us e) }
+pub one_absent : {b : Base} {all low : Language b} (p : b.Shape) (ts : List b.Token) → ((t : b.Token) (us : List b.Token) → ts ≡ t ∷ us → b.fits p t ≡ false) → Absent b all low (one p) ts
+one_absent {b} {all} {low} p ts f = record {
+  off = λ m us vs e c. clash m vs c.1 c.2.0 c.2.1 (f m us e);
+  some = λ c. nil_cons c.1 [] c.2.0;
+  within = λ us c. c;
+}
   where
     clash : (m : b.Token) (vs : List b.Token) (x : b.Token) → m ∷ vs ≡ x ∷ [] → b.fits p x ≡ true → b.fits p m ≡ false → ⊥
     clash m vs x g h k = let q : x ≡ m = cc in true_false (sym h ∙ ap (b.fits p) q ∙ k)
 
-pub one_some : {b : Base} {all : Language b} (p : b.Shape) → NotEmpty b all (one p)
-one_some p = record { some = λ c. nil_cons c.1 [] c.2.0 }
-
 pub one_fails : {b : Base} {all : Language b} (p : b.Shape) (ts : List b.Token) → ((t : b.Token) (us : List b.Token) → ts ≡ t ∷ us → b.fits p t ≡ false) → Fails b all (one p) ts ts
-one_fails p ts f = fails_off (one_some p) (one_off p ts f)
+one_fails {b} {all} p ts f = absent_fails (one_absent {all = all} {low = all} p ts f)
+
+pub one_opens : {b : Base} {l : Language b} (p : b.Shape) (t : b.Token) → b.fits p t ≡ true → Begins b l (one p) (t ∷ [])
+one_opens p t f = record { more = []; ending = false; tree = t; spelled = (refl, f, refl) }
 
 -- ---- a grammar whose trees are another's
 

@@ -1,5 +1,7 @@
 use Rattle.lv_viable.proofs.Readers.{none_reads}
 use Rattle.lv_viable.proofs.Straight
+use Rattle.lv_viable.proofs.Choices
+use Rattle.lv_viable.proofs.Repeats
 use Rattle.lv_viable.proofs.nothing_is_read.Goals as goal
 
 pub returns : goal.returns

@@ -4,3 +4,4 @@ pub mod Pairs
 pub mod Straight
 pub mod Choices
 pub mod Repeats
+pub mod Loops

@@ -1,6 +1,6 @@
 -- Where a reader of a grammar stands after some of its parts.
-use Rattle.std.specs.Prelude.{List}
-use Rattle.lv_viable.specs.Grammar.{Base, Gram}
+use Rattle.std.specs.Prelude.{List, ◌++◌}
+use Rattle.lv_viable.specs.Grammar.{Base, Gram, many, until}
 use Rattle.lv_viable.specs.Spelling.{Language}
 use Rattle.lv_viable.specs.Reading.{Reads, Fails, PassesLimit}
 
@@ -9,3 +9,11 @@ pub record At (b : Base) (all low : Language b) {A : Type 0} (g : Gram b A) (ts 
   pub reads : (y : B) (rest : List b.Token) → Reads b all inner h us y rest → Reads b all low g ts (build y) rest
   pub fails : (rest : List b.Token) → Fails b all h us rest → Fails b all g ts rest
   pub passes : (rest : List b.Token) → PassesLimit b all inner h us rest → PassesLimit b all low g ts rest
+
+-- these trees are read of any number of `g`'s, from `ts` to `us`
+pub record Standing (b : Base) (all low : Language b) {A : Type 0} (g : Gram b A) (ts us : List b.Token) (xs : List A) : Type 0 where
+  pub at : At b all low (many g) ts low (many g) us (λ ys. xs ++ ys)
+
+-- these trees are read of any number of `g`'s up to one of `h`, from `ts` to `us`
+pub record StandingUntil (b : Base) (all low : Language b) {A B : Type 0} (g : Gram b A) (h : Gram b B) (ts us : List b.Token) (xs : List A) : Type 0 where
+  pub at : At b all low (until g h) ts low (until g h) us (λ p. (xs ++ p.0, p.1))

@@ -5,3 +5,4 @@ pub mod Straight
 pub mod Choices
 pub mod Repeats
 pub mod Loops
+pub mod Tails

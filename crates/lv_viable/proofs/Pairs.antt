@@ -41,11 +41,11 @@ step_in : {T : Type 0} (us m more : List T) (t : T) → (us ++ (t ∷ m)) ++ mor
 step_in us m more t = simp append_assoc
 
 -- a beginning of g that goes on past us with t
-past : {b : Base} {l : Language b} {A : Type 0} {g : Gram b A} (ts us m : List b.Token) (t : b.Token) → ts ≡ us ++ (t ∷ m) → Begins b l g ts → Begins b l g (us ++ (t ∷ []))
+pub past : {b : Base} {l : Language b} {A : Type 0} {g : Gram b A} (ts us m : List b.Token) (t : b.Token) → ts ≡ us ++ (t ∷ m) → Begins b l g ts → Begins b l g (us ++ (t ∷ []))
 past {b} {l} {A} {g} ts us m t e c =
     begun (us ++ (t ∷ [])) (m ++ c.more) (subst (λ (v : List b.Token). Spelled b l g v) (ap (λ v. v ++ c.more) e ∙ step_in us m c.more t) (c.ending, c.tree, c.spelled))
 
-whole : {b : Base} {l : Language b} {A : Type 0} {g : Gram b A} (ts : List b.Token) → Spelled b l g ts → Begins b l g ts
+pub whole : {b : Base} {l : Language b} {A : Type 0} {g : Gram b A} (ts : List b.Token) → Spelled b l g ts → Begins b l g ts
 whole {b} {l} {A} {g} ts c = begun ts [] (subst (λ (v : List b.Token). Spelled b l g v) (sym (append-nil ts)) c)
 
 -- Where a tree of g ends, and goes on with no next token, the second of two trees begins.

@@ -61,7 +61,7 @@ one_reads {b} {all} {low} p t us f = record {
     longer : (m : b.Token) (ms : List b.Token) (x : b.Token) → t ∷ (m ∷ ms) ≡ x ∷ [] → ⊥
     longer m ms x e = cc
 
-true_false : true ≡ false → ⊥
+pub true_false : true ≡ false → ⊥
 true_false e = cc
 
 pub one_absent : {b : Base} {all low : Language b} (p : b.Shape) (ts : List b.Token) → ((t : b.Token) (us : List b.Token) → ts ≡ t ∷ us → b.fits p t ≡ false) → Absent b all low (one p) ts

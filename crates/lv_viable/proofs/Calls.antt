@@ -65,7 +65,7 @@ level_below b l m g i (suc n) zero d e r ts o x h = absurd (omega arith)
 level_below b l m g i (suc n) (suc k) d e r ts o x h =
     (h.0, spells_among b l m (Level b l g n (inside (b.count r) d)) (Level b m g k (inside (b.count r) d)) i (level_below b l m g i n k (inside (b.count r) d) (omega arith)) (g r) ts o x h.1)
 
-same_leaves : (b : Base) (l : Leaves b) → LeavesAreAmong b l l
+pub same_leaves : (b : Base) (l : Leaves b) → LeavesAreAmong b l l
 same_leaves b l k ts x h = h
 
 pub level_grows : (b : Base) (l : Leaves b) (g : Rules b) (n k : ℕ) (d : ℕ → Limit) → n ≤ k → AreAmong b (Level b l g n d) (Level b l g k d)

@@ -4,7 +4,7 @@ use Rattle.lv_viable.specs.Grammar.{Base, Gram, OneOf, left, right, either, perh
 use Rattle.lv_viable.specs.Spelling.{Language, IsSpelled}
 use Rattle.lv_viable.specs.Reading.{Begins, Reads}
 use Rattle.lv_viable.specs.At.{At}
-use Rattle.lv_viable.proofs.Cuts.{nil_cons}
+use Rattle.lv_viable.proofs.Lists.{nil_cons}
 use Rattle.lv_viable.proofs.Readers.{Spelled, Absent, Opens, Case, at_case, begun}
 
 -- a choice is the one where it isn't the other
@@ -47,7 +47,7 @@ given : (b : Base) (l : Language b) {A : Type 0} (g : Gram b A) (m : b.Token) (t
 given b l {A} g m ts c = go c.0 c.1 c.2
   where
     go : (o : Bool) (z : Option A) → IsSpelled b l (perhaps g) (m ∷ ts) o z → Spelled b l g (m ∷ ts)
-    go o None s = absurd (nil_cons m ts (sym s.0))
+    go o None s = absurd (nil_cons m ts s.0)
     go o (Some x) s = (o, x, s)
 
 -- it is there

@@ -1,4 +1,7 @@
-pub mod Cuts
+pub mod Lists
+pub mod SetLaws
+pub mod Calls
+pub mod Known
 pub mod Readers
 pub mod Pairs
 pub mod Straight

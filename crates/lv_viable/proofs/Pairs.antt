@@ -4,7 +4,7 @@ use Rattle.lv_viable.specs.Grammar.{Base, Gram, both}
 use Rattle.lv_viable.specs.Spelling.{Language, IsSpelled, last_open}
 use Rattle.lv_viable.specs.Reading.{Begins, Reads, Fails, PassesLimit}
 use Rattle.lv_viable.specs.At.{At}
-use Rattle.lv_viable.proofs.Cuts.{Cuts, cuts, later, same, earlier}
+use Rattle.lv_viable.proofs.Lists.{Cuts, cuts, longer, same, shorter}
 use Rattle.lv_viable.proofs.Readers.{Spelled, begun}
 
 -- Two grammars of which the second begins with no token that a tree of the first goes on with.
@@ -66,9 +66,9 @@ module _ (b : Base) (all low : Language b) {A B : Type 0} (g : Gram b A) (h : Gr
           k.apart us t vs c (past f us m t p (whole f i)) (subst (λ (v : b.Token). Spelled b all h (v ∷ vs)) h' d')
 
       go : Cuts us (vs ++ others) f w → (us ≡ f) × (vs ++ others ≡ w)
-      go (later t m p r) = absurd (e t (m ++ (vs ++ others)) r (past us f m t p (whole us c)))
+      go (longer t m p r) = absurd (e t (m ++ (vs ++ others)) r (past us f m t p (whole us c)))
       go (same p r) = (p, r)
-      go (earlier t m p r) = absurd (before vs t m d p r j)
+      go (shorter t m p r) = absurd (before vs t m d p r j)
 
   -- the same, with nothing behind
   meets : (us vs f w : List b.Token) → Spelled b all g us → Spelled b all h vs → Spelled b all g f →
@@ -79,9 +79,9 @@ module _ (b : Base) (all low : Language b) {A B : Type 0} (g : Gram b A) (h : Gr
       before vs t m d' p r = k.apart us t (m ++ w) c (past f us m t p (whole f i)) (subst (λ (v : List b.Token). Spelled b all h v) r d')
 
       go : Cuts us vs f w → (us ≡ f) × (vs ≡ w)
-      go (later t m p r) = absurd (e t (m ++ vs) r (past us f m t p (whole us c)))
+      go (longer t m p r) = absurd (e t (m ++ vs) r (past us f m t p (whole us c)))
       go (same p r) = (p, r)
-      go (earlier t m p r) = absurd (before vs t m d p r)
+      go (shorter t m p r) = absurd (before vs t m d p r)
 
   -- the first is read: what is answered for the second is answered for both
   pub after : (ts us : List b.Token) (x : A) → Reads b all low g ts x us → At b all low (both g h) ts low h us (λ y. (x, y))
@@ -169,7 +169,7 @@ module _ (b : Base) (all low : Language b) {A B : Type 0} (g : Gram b A) (h : Gr
       stuck t us more e s = go (cuts s.fore s.behind p.front (t ∷ more) (sym s.cut ∙ append_assoc p.front (t ∷ []) more))
         where
           go : Cuts s.fore s.behind p.front (t ∷ more) → ⊥
-          go (later r m f j) = p.dead t us e (past s.fore p.front m t (f ∙ ap (λ v. p.front ++ (v ∷ m)) (let j' : r ≡ t = cc in j')) (whole s.fore s.first))
+          go (longer r m f j) = p.dead t us e (past s.fore p.front m t (f ∙ ap (λ v. p.front ++ (v ∷ m)) (let j' : r ≡ t = cc in j')) (whole s.fore s.first))
           go (same f j) = p.none s.first.1 rest (record {
             front = s.fore;
             ending = s.first.0;
@@ -177,7 +177,7 @@ module _ (b : Base) (all low : Language b) {A B : Type 0} (g : Gram b A) (h : Gr
             spelled = s.first.2;
             ends = λ r ws j' w. p.dead r ws j' (subst (λ (v : List b.Token). Begins b all g (v ++ (r ∷ []))) f w);
           })
-          go (earlier r m f j) =
+          go (shorter r m f j) =
               read s.fore (m ++ (t ∷ more)) r s.first (subst (λ (v : List b.Token). Spelled b all h v) j s.second) (m ++ rest) (p.cut ∙ ap (λ v. v ++ rest) f ∙ append_assoc s.fore (r ∷ m) rest)
 
       nothing : (others : List b.Token) (x' : A) (y' : B) → Reads b all all (both g h) ts (x', y') others → ⊥
@@ -209,7 +209,7 @@ module _ (b : Base) (all low : Language b) {A B : Type 0} (g : Gram b A) (h : Gr
       low_left more s = go (cuts s.fore s.behind (p.front ++ (p.token ∷ [])) more (sym s.cut))
         where
           go : Cuts s.fore s.behind (p.front ++ (p.token ∷ [])) more → Begins b low g (p.front ++ (p.token ∷ []))
-          go (later r m f j) = begun (p.front ++ (p.token ∷ [])) (r ∷ m) (subst (λ (v : List b.Token). Spelled b low g v) f s.first)
+          go (longer r m f j) = begun (p.front ++ (p.token ∷ [])) (r ∷ m) (subst (λ (v : List b.Token). Spelled b low g v) f s.first)
           go (same f j) = whole (p.front ++ (p.token ∷ [])) (subst (λ (v : List b.Token). Spelled b low g v) f s.first)
-          go (earlier r m f j) = absurd (k.apart s.fore r (m ++ more) (k.left s.fore s.first) (past (p.front ++ (p.token ∷ [])) s.fore m r f p.alive)
+          go (shorter r m f j) = absurd (k.apart s.fore r (m ++ more) (k.left s.fore s.first) (past (p.front ++ (p.token ∷ [])) s.fore m r f p.alive)
               (k.right (r ∷ (m ++ more)) (subst (λ (v : List b.Token). Spelled b low h v) j s.second)))

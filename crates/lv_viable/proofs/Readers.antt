@@ -4,7 +4,13 @@ use Rattle.lv_viable.specs.Grammar.{Base, Gram, none, one, act}
 use Rattle.lv_viable.specs.Spelling.{Language, IsSpelled}
 use Rattle.lv_viable.specs.Reading.{Begins, Reads, Fails, PassesLimit}
 use Rattle.lv_viable.specs.At.{At}
-use Rattle.lv_viable.proofs.Cuts.{nil_cons, head_of}
+use Rattle.lv_viable.proofs.Lists.{nil_cons, true_false}
+
+-- the head of what a front and a token of its rest begin
+pub head_of : {T : Type 0} (ts front rest : List T) (t : T) (us more : List T) → ts ≡ front ++ rest → rest ≡ t ∷ us →
+    (m : T) × (vs : List T) × (ws : List T) × (ts ≡ m ∷ vs) × ((front ++ (t ∷ [])) ++ more ≡ m ∷ ws)
+head_of ts [] rest t us more e f = (t, us, more, e ∙ f, refl)
+head_of ts (m ∷ front) rest t us more e f = (m, front ++ rest, (front ++ (t ∷ [])) ++ more, e, refl)
 
 -- some tree is spelled so
 abbrev pub Spelled : (b : Base) (l : Language b) {A : Type 0} → Gram b A → List b.Token → Type 0
@@ -44,7 +50,7 @@ none_reads {b} {all} {low} ts = record {
   ending = false;
   cut = refl;
   spelled = (refl, refl);
-  ends = λ t us e c. nil_cons t c.more (sym c.spelled.0);
+  ends = λ t us e c. nil_cons t c.more c.spelled.0;
 }
 
 -- ---- one token
@@ -61,18 +67,15 @@ one_reads {b} {all} {low} p t us f = record {
     longer : (m : b.Token) (ms : List b.Token) (x : b.Token) → t ∷ (m ∷ ms) ≡ x ∷ [] → ⊥
     longer m ms x e = cc
 
-pub true_false : true ≡ false → ⊥
-true_false e = cc
-
 pub one_absent : {b : Base} {all low : Language b} (p : b.Shape) (ts : List b.Token) → ((t : b.Token) (us : List b.Token) → ts ≡ t ∷ us → b.fits p t ≡ false) → Absent b all low (one p) ts
 one_absent {b} {all} {low} p ts f = record {
   off = λ m us vs e c. clash m vs c.1 c.2.0 c.2.1 (f m us e);
-  some = λ c. nil_cons c.1 [] c.2.0;
+  some = λ c. nil_cons c.1 [] (sym c.2.0);
   within = λ us c. c;
 }
   where
     clash : (m : b.Token) (vs : List b.Token) (x : b.Token) → m ∷ vs ≡ x ∷ [] → b.fits p x ≡ true → b.fits p m ≡ false → ⊥
-    clash m vs x g h k = let q : x ≡ m = cc in true_false (sym h ∙ ap (b.fits p) q ∙ k)
+    clash m vs x g h k = let q : x ≡ m = cc in true_false (b.fits p x) h (ap (b.fits p) q ∙ k)
 
 pub one_fails : {b : Base} {all : Language b} (p : b.Shape) (ts : List b.Token) → ((t : b.Token) (us : List b.Token) → ts ≡ t ∷ us → b.fits p t ≡ false) → Fails b all (one p) ts ts
 one_fails {b} {all} p ts f = absent_fails (one_absent {all = all} {low = all} p ts f)

@@ -4,7 +4,7 @@ use Rattle.lv_viable.specs.Grammar.{Base, Gram, both, many, until}
 use Rattle.lv_viable.specs.Spelling.{Language, IsSpelled, SpellsAll, last_open}
 use Rattle.lv_viable.specs.Reading.{Begins, Reads, Fails, PassesLimit}
 use Rattle.lv_viable.specs.At.{At}
-use Rattle.lv_viable.proofs.Cuts.{nil_cons}
+use Rattle.lv_viable.proofs.Lists.{nil_cons}
 use Rattle.lv_viable.proofs.Readers.{Spelled, Absent, Opens, Case, at_case, begun}
 
 -- ---- any number
@@ -14,7 +14,7 @@ one_more : (b : Base) (l : Language b) {A : Type 0} (g : Gram b A) (m : b.Token)
 one_more b l {A} g m ts c = go c.0 c.1 c.2
   where
     go : (o : Bool) (z : List A) → IsSpelled b l (many g) (m ∷ ts) o z → Spelled b l (both g (many g)) (m ∷ ts)
-    go o [] s = absurd (nil_cons m ts (sym s.0))
+    go o [] s = absurd (nil_cons m ts s.0)
     go o (x ∷ xs) s = (o, (x, xs), s)
 
 alone : (b : Base) (l : Language b) {A : Type 0} (g : Gram b A) (ts : List b.Token) → Spelled b l g ts → Spelled b l (many g) ts
@@ -111,4 +111,4 @@ until_end {b} {all} {low} {A} {B} {g} {ts} h k = at_case (record {
 
     empty : (fore : List b.Token) → Spelled b all g fore → ((behind : List b.Token) × ([] ≡ fore ++ behind)) → ⊥
     empty [] d f = k.some d
-    empty (s ∷ fore) d f = nil_cons s (fore ++ f.0) f.1
+    empty (s ∷ fore) d f = nil_cons s (fore ++ f.0) (sym f.1)

@@ -4,8 +4,8 @@ use Rattle.lv_viable.specs.Grammar.{Base, Gram, call, tail}
 use Rattle.lv_viable.specs.Spelling.{Language, IsSpelled}
 use Rattle.lv_viable.specs.Reading.{Begins, Reads, Fails, PassesLimit}
 use Rattle.lv_viable.specs.At.{At}
-use Rattle.lv_viable.proofs.Cuts.{Cuts, cuts, later, same, earlier}
-use Rattle.lv_viable.proofs.Readers.{Spelled, begun, true_false}
+use Rattle.lv_viable.proofs.Lists.{Cuts, cuts, longer, same, shorter, true_false}
+use Rattle.lv_viable.proofs.Readers.{Spelled, begun}
 use Rattle.lv_viable.proofs.Pairs.{past, whole}
 
 -- A rule whose open trees go on with the token before a tail, and whose other trees don't.
@@ -47,9 +47,9 @@ module _ (b : Base) (all low : Language b) {B : Type 0} (r : b.Rule) (p : b.Shap
   meets us s vs f t w x c g i e q = go (cuts us (s ∷ vs) f (t ∷ w) q)
     where
       go : Cuts us (s ∷ vs) f (t ∷ w) → (us ≡ f) × (s ≡ t) × (vs ≡ w)
-      go (later n m a d) = absurd (e (past us f m t (a ∙ ap (λ v. f ++ (v ∷ m)) (let j : n ≡ t = cc in j)) (whole us (false, x, c))))
+      go (longer n m a d) = absurd (e (past us f m t (a ∙ ap (λ v. f ++ (v ∷ m)) (let j : n ≡ t = cc in j)) (whole us (false, x, c))))
       go (same a d) = (a, (let j : s ≡ t = cc in j), (let j : vs ≡ w = cc in j))
-      go (earlier n m a d) = absurd (k.closed us s x c g (past f us m s (a ∙ ap (λ v. us ++ (v ∷ m)) (let j : n ≡ s = cc in j)) (whole f i)))
+      go (shorter n m a d) = absurd (k.closed us s x c g (past f us m s (a ∙ ap (λ v. us ++ (v ∷ m)) (let j : n ≡ s = cc in j)) (whole f i)))
 
   -- a tree that is not open, before a token that begins a tail, is read
   stands : (ts us : List b.Token) (t : b.Token) (more : List b.Token) (x : b.RuleTree r) → IsSpelled b all (call r) us false x → b.fits p t ≡ true → ts ≡ us ++ (t ∷ more) → Reads b all all (call r) ts x (t ∷ more)
@@ -113,10 +113,10 @@ module _ (b : Base) (all low : Language b) {B : Type 0} (r : b.Rule) (p : b.Shap
       nothing rest others a z w (bare d) = go (cuts w.front others q.front (t ∷ us) (sym w.cut ∙ q.cut))
         where
           go : Cuts w.front others q.front (t ∷ us) → ⊥
-          go (later n m e g) = q.ends t us refl (past w.front q.front m t (e ∙ ap (λ v. q.front ++ (v ∷ m)) (let j : n ≡ t = cc in j)) (whole w.front d))
+          go (longer n m e g) = q.ends t us refl (past w.front q.front m t (e ∙ ap (λ v. q.front ++ (v ∷ m)) (let j : n ≡ t = cc in j)) (whole w.front d))
           go (same e g) = w.ends t us g (subst (λ (v : List b.Token). Begins b all (tail r p h) (v ++ (t ∷ []))) (sym e)
               (with_tail b all r p h q.front t [] x first f (begun [] k.witness.0 k.witness.1)))
-          go (earlier n m e g) = w.ends n (m ++ (t ∷ us)) g (bared b all r p h (w.front ++ (n ∷ [])) (past q.front w.front m n e (whole q.front (false, x, first))))
+          go (shorter n m e g) = w.ends n (m ++ (t ∷ us)) g (bared b all r p h (w.front ++ (n ∷ [])) (past q.front w.front m n e (whole q.front (false, x, first))))
       nothing rest others a z w (tailed us' n vs' x' e d g i) =
           let j : (us' ≡ q.front) × (n ≡ t) × (vs' ++ others ≡ us) =
           meets us' n (vs' ++ others) q.front t us x' d g (false, x, first) (λ c. q.ends t us refl c) (sym (append_assoc us' (n ∷ vs') others) ∙ ap (λ v. v ++ others) (sym e) ∙ sym w.cut ∙ q.cut) in
@@ -144,7 +144,7 @@ module _ (b : Base) (all low : Language b) {B : Type 0} (r : b.Rule) (p : b.Shap
       stuck t vs more e (tailed us' n vs' z g d i j) =
           let m : (us' ≡ q.front) × (n ≡ t) × (vs' ≡ more) =
           meets us' n vs' q.front t more z d i (q.ending, x, k.left q.front q.ending x q.spelled) (λ c. q.ends t vs e c) (sym g ∙ append_assoc q.front (t ∷ []) more) in
-          true_false (sym i ∙ ap (b.fits p) m.1 ∙ f t vs e)
+          true_false (b.fits p n) i (ap (b.fits p) m.1 ∙ f t vs e)
 
   -- the rule's tree is not read
   pub fails : (ts rest : List b.Token) → Fails b all (call r) ts rest → Fails b all (tail r p h) ts rest
@@ -160,9 +160,9 @@ module _ (b : Base) (all low : Language b) {B : Type 0} (r : b.Rule) (p : b.Shap
       stuck t us more e (tailed us' n vs' x g d i j) = go (cuts us' (n ∷ vs') a.front (t ∷ more) (sym g ∙ append_assoc a.front (t ∷ []) more))
         where
           go : Cuts us' (n ∷ vs') a.front (t ∷ more) → ⊥
-          go (later s m c v) = a.dead t us e (past us' a.front m t (c ∙ ap (λ u. a.front ++ (u ∷ m)) (let q : s ≡ t = cc in q)) (whole us' (false, x, d)))
+          go (longer s m c v) = a.dead t us e (past us' a.front m t (c ∙ ap (λ u. a.front ++ (u ∷ m)) (let q : s ≡ t = cc in q)) (whole us' (false, x, d)))
           go (same c v) = a.none x (n ∷ us) (stands ts us' n us x d i (a.cut ∙ ap (λ u. u ++ rest) (sym c) ∙ ap (λ u. us' ++ u) (e ∙ ap (λ u. u ∷ us) (let q : t ≡ n = cc in q))))
-          go (earlier s m c v) = a.none x (n ∷ (m ++ rest)) (stands ts us' n (m ++ rest) x d i
+          go (shorter s m c v) = a.none x (n ∷ (m ++ rest)) (stands ts us' n (m ++ rest) x d i
               (a.cut ∙ ap (λ u. u ++ rest) (c ∙ ap (λ u. us' ++ (u ∷ m)) (let q : s ≡ n = cc in q)) ∙ append_assoc us' (n ∷ m) rest))
 
       nothing : (others : List b.Token) (z : b.RuleTree r × Option B) → (w : Reads b all all (tail r p h) ts z others) → Tailed b all r p h w.front → ⊥
@@ -192,6 +192,6 @@ module _ (b : Base) (all low : Language b) {B : Type 0} (r : b.Rule) (p : b.Shap
       low_left more (tailed us' n vs' x g d i j) = go (cuts us' (n ∷ vs') (a.front ++ (a.token ∷ [])) more (sym g))
         where
           go : Cuts us' (n ∷ vs') (a.front ++ (a.token ∷ [])) more → Begins b low (call r) (a.front ++ (a.token ∷ []))
-          go (later s m c v) = begun (a.front ++ (a.token ∷ [])) (s ∷ m) (subst (λ (u : List b.Token). Spelled b low (call r) u) c (false, x, d))
+          go (longer s m c v) = begun (a.front ++ (a.token ∷ [])) (s ∷ m) (subst (λ (u : List b.Token). Spelled b low (call r) u) c (false, x, d))
           go (same c v) = whole (a.front ++ (a.token ∷ [])) (subst (λ (u : List b.Token). Spelled b low (call r) u) c (false, x, d))
-          go (earlier s m c v) = absurd (k.closed us' n x (k.left us' false x d) i (past (a.front ++ (a.token ∷ [])) us' m n (c ∙ ap (λ u. us' ++ (u ∷ m)) (let q : s ≡ n = cc in q)) a.alive))
+          go (shorter s m c v) = absurd (k.closed us' n x (k.left us' false x d) i (past (a.front ++ (a.token ∷ [])) us' m n (c ∙ ap (λ u. us' ++ (u ∷ m)) (let q : s ≡ n = cc in q)) a.alive))

@@ -2,7 +2,7 @@
 use Rattle.std.specs.Prelude.{◌≡◌, ℕ, List, [], ◌∷◌, ◌++◌, Bool, true, false, ◌⊎◌}
 use Rattle.lv_viable.specs.Grammar.{Base, Gram}
 use Rattle.lv_viable.specs.Spelling.{Leaves, Language, any, called, IsSpelled}
-use Rattle.lv_viable.specs.Sets.{Table, these, is_in, may_be_empty, first, next, rule_fits}
+use Rattle.lv_viable.specs.Sets.{Table, is_in, may_be_empty, first, next, rule_fits}
 use Rattle.lv_viable.specs.Reading.{Begins}
 
 -- shapes are told apart

@@ -1,6 +1,6 @@
 -- Grammars over tokens, with the trees that they build. A grammar asks a token for a shape, leaves some languages to other
 -- readers (its leaves), and has rules by which it may nest.
-use Rattle.std.specs.Prelude.{◌≡◌, ℕ, List, Bool, Option}
+use Rattle.std.specs.Prelude.{ℕ, List, Bool, Option}
 
 pub record Base : Type 1 where
   pub Token : Type 0

@@ -1,5 +1,5 @@
 -- Which tokens may begin a tree, which may go on behind a whole one, and when a grammar can be read by its next token alone.
-use Rattle.std.specs.Prelude.{◌≡◌, ℕ, List, [], ◌∷◌, ◌++◌, Bool, true, false, ◌&&◌, ◌||◌, not, if◌then◌else◌}
+use Rattle.std.specs.Prelude.{List, [], ◌∷◌, ◌++◌, Bool, true, false, ◌&&◌, ◌||◌, not, if◌then◌else◌}
 use Rattle.lv_viable.specs.Grammar.{Base, Gram, none, one, leaf, call, act, both, either, perhaps, many, until, tail}
 
 -- the tokens of one of these shapes, or of none of them

@@ -89,3 +89,7 @@ called b l r ts o x = (n : ℕ) × Level b l.leaves l.rules n l.limits r ts o x
 -- these tokens spell this tree
 abbrev pub IsSpelled : (b : Base) → Language b → {A : Type 0} → Gram b A → List b.Token → Bool → A → Type 0
 IsSpelled b l g ts o x = Spells b l.leaves (called b l) g ts o x
+
+-- the language inside of a rule
+abbrev pub inner : (b : Base) → Language b → b.Rule → Language b
+inner b l r = record { rules = l.rules; leaves = l.leaves; limits = inside (b.count r) l.limits }

@@ -9,3 +9,5 @@ pub mod Choices
 pub mod Repeats
 pub mod Loops
 pub mod Tails
+pub mod Rules
+pub mod Opening

@@ -2,3 +2,6 @@ pub mod Lists
 pub mod SetLaws
 pub mod Calls
 pub mod Known
+pub mod Grammars
+pub mod Hangs
+pub mod FactsOf

@@ -15,20 +15,20 @@ LeavesAreAmong b l m = (k : b.Leaf) (ts : List b.Token) (x : b.LeafTree k) → l
 abbrev pub IsAmong : {T A : Type 0} → (List T → Bool → A → Type 0) → (List T → Bool → A → Type 0) → Type 0
 IsAmong {T} {A} s s' = (ts : List T) (o : Bool) (x : A) → s ts o x → s' ts o x
 
-all_among : {T A : Type 0} (s s' : List T → Bool → A → Type 0) → IsAmong s s' → (xs : List A) (ts : List T) (o : Bool) → SpellsAll s ts o xs → SpellsAll s' ts o xs
+pub all_among : {T A : Type 0} (s s' : List T → Bool → A → Type 0) → IsAmong s s' → (xs : List A) (ts : List T) (o : Bool) → SpellsAll s ts o xs → SpellsAll s' ts o xs
 all_among s s' j [] ts o h = h
 all_among s s' j (x ∷ xs) ts o h = (h.0, h.1, h.2, h.3, h.4, j h.0 h.2 x h.5, all_among s s' j xs h.1 h.3 h.6, h.7)
 
-either_among : {T A B : Type 0} (s s' : List T → Bool → A → Type 0) (q q' : List T → Bool → B → Type 0) → IsAmong s s' → IsAmong q q' →
+pub either_among : {T A B : Type 0} (s s' : List T → Bool → A → Type 0) (q q' : List T → Bool → B → Type 0) → IsAmong s s' → IsAmong q q' →
     (x : OneOf A B) (ts : List T) (o : Bool) → SpellsEither s q ts o x → SpellsEither s' q' ts o x
 either_among s s' q q' j k (left x) ts o h = j ts o x h
 either_among s s' q q' j k (right x) ts o h = k ts o x h
 
-perhaps_among : {T A : Type 0} (s s' : List T → Bool → A → Type 0) → IsAmong s s' → (x : Option A) (ts : List T) (o : Bool) → SpellsPerhaps s ts o x → SpellsPerhaps s' ts o x
+pub perhaps_among : {T A : Type 0} (s s' : List T → Bool → A → Type 0) → IsAmong s s' → (x : Option A) (ts : List T) (o : Bool) → SpellsPerhaps s ts o x → SpellsPerhaps s' ts o x
 perhaps_among s s' j None ts o h = h
 perhaps_among s s' j (Some x) ts o h = j ts o x h
 
-tail_among : {T A B : Type 0} (s s' : List T → Bool → A → Type 0) (f : T → Bool) (q q' : List T → Bool → B → Type 0) → IsAmong s s' → IsAmong q q' →
+pub tail_among : {T A B : Type 0} (s s' : List T → Bool → A → Type 0) (f : T → Bool) (q q' : List T → Bool → B → Type 0) → IsAmong s s' → IsAmong q q' →
     (x : A) (y : Option B) (ts : List T) (o : Bool) → SpellsTail s f q ts o x y → SpellsTail s' f q' ts o x y
 tail_among s s' f q q' j k x None ts o h = (h.0, j ts h.0 x h.1, h.2)
 tail_among s s' f q q' j k x (Some y) ts o h = (h.0, h.1, h.2, h.3, j h.0 false x h.4, h.5, k h.2 o y h.6)

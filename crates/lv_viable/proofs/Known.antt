@@ -30,11 +30,11 @@ Goes {T} {A} s us m = (more : List T) × (p : Bool) × (y : A) × s (us ++ (m �
 abbrev pub HasTree : {T A : Type 0} → (List T → Bool → A → Type 0) → Type 0
 HasTree {T} {A} s = (us : List T) × (o : Bool) × (x : A) × s us o x
 
-last_open_some : {T : Type 0} (w : List T) (p q : Bool) → (w ≡ [] → ⊥) → last_open w p q ≡ q
+pub last_open_some : {T : Type 0} (w : List T) (p q : Bool) → (w ≡ [] → ⊥) → last_open w p q ≡ q
 last_open_some [] p q h = absurd (h refl)
 last_open_some (m ∷ w) p q h = refl
 
-last_open_none : {T : Type 0} (w : List T) (p q : Bool) → w ≡ [] → last_open w p q ≡ p
+pub last_open_none : {T : Type 0} (w : List T) (p q : Bool) → w ≡ [] → last_open w p q ≡ p
 last_open_none w p q e = ap (λ v. last_open v p q) e
 
 module _ (b : Base) (i : IsBase b) (t : Table b) where
@@ -71,7 +71,7 @@ module _ (b : Base) (i : IsBase b) (t : Table b) where
 
   -- ---- one after the other
 
-  abbrev SpellsBoth : {A B : Type 0} → (List b.Token → Bool → A → Type 0) → (List b.Token → Bool → B → Type 0) → List b.Token → Bool → A × B → Type 0
+  abbrev pub SpellsBoth : {A B : Type 0} → (List b.Token → Bool → A → Type 0) → (List b.Token → Bool → B → Type 0) → List b.Token → Bool → A × B → Type 0
   SpellsBoth s s' ts o x = (us : List b.Token) × (vs : List b.Token) × (p : Bool) × (q : Bool) × (ts ≡ us ++ vs) × s us p x.0 × s' vs q x.1 × (o ≡ last_open vs p q)
 
   in_left : (e : Bool) (s u : Set b.Shape) (m : b.Token) → is_in b s m ≡ true → is_in b (if e then union b s u else s) m ≡ true
@@ -82,7 +82,7 @@ module _ (b : Base) (i : IsBase b) (t : Table b) where
   in_right true s u m h = union_right b i s u m h
   in_right false s u m h = h
 
-  known_both : {A B : Type 0} (s : List b.Token → Bool → A → Type 0) (s' : List b.Token → Bool → B → Type 0) (f n f' n' : Set b.Shape) (e e' : Bool) →
+  pub known_both : {A B : Type 0} (s : List b.Token → Bool → A → Type 0) (s' : List b.Token → Bool → B → Type 0) (f n f' n' : Set b.Shape) (e e' : Bool) →
       Known b t s f n e → Known b t s' f' n' e' → Stops b t n (λ m. is_in b f' m ≡ true) →
       Known b t (SpellsBoth s s') (if e then union b f f' else f) (if e' then union b n n' else n') (e && e')
   known_both {A} {B} s s' f n f' n' e e' k k' d = record {
@@ -140,7 +140,7 @@ module _ (b : Base) (i : IsBase b) (t : Table b) where
 
   -- ---- a choice
 
-  known_either : {A B : Type 0} (s : List b.Token → Bool → A → Type 0) (s' : List b.Token → Bool → B → Type 0) (f n f' n' : Set b.Shape) (e e' : Bool) →
+  pub known_either : {A B : Type 0} (s : List b.Token → Bool → A → Type 0) (s' : List b.Token → Bool → B → Type 0) (f n f' n' : Set b.Shape) (e e' : Bool) →
       Known b t s f n e → Known b t s' f' n' e' → e ≡ false → e' ≡ false → apart b f f' ≡ true →
       Known b t (SpellsEither s s') (union b f f') (union b n n') (e || e')
   known_either {A} {B} s s' f n f' n' e e' k k' z z' d = record {
@@ -182,7 +182,7 @@ module _ (b : Base) (i : IsBase b) (t : Table b) where
       alike us vs o p (right x) (left y) q h j = absurd (never vs us [] p o y x j h (inr (sym (append-nil us ∙ q))))
       alike us vs o p (right x) (right y) q h j = ap right (k'.one us vs o p x y q h j)
 
-  known_perhaps : {A : Type 0} (s : List b.Token → Bool → A → Type 0) (f n : Set b.Shape) (e : Bool) → Known b t s f n e → e ≡ false → Known b t (SpellsPerhaps s) f (union b f n) true
+  pub known_perhaps : {A : Type 0} (s : List b.Token → Bool → A → Type 0) (f n : Set b.Shape) (e : Bool) → Known b t s f n e → e ≡ false → Known b t (SpellsPerhaps s) f (union b f n) true
   known_perhaps {A} s f n e k z = record {
     starts = λ m us ts o x q h. starts m us ts o x q h;
     some = λ w. true_false true refl w;
@@ -253,7 +253,7 @@ module _ (b : Base) (i : IsBase b) (t : Table b) where
         let r : xs ≡ ys = many_one d xs ys h.1 j.1 h.3 j.3 c.1 h.6 j.6 in
         cc
 
-    known_many : Stops b t n (λ m. is_in b f m ≡ true) → Known b t (SpellsAll s) f (union b f n) true
+    pub known_many : Stops b t n (λ m. is_in b f m ≡ true) → Known b t (SpellsAll s) f (union b f n) true
     known_many d = record {
       starts = λ m us ts o x q h. many_starts x m us ts o q h;
       some = λ w. true_false true refl w;
@@ -263,11 +263,11 @@ module _ (b : Base) (i : IsBase b) (t : Table b) where
 
   -- ---- any number up to what ends them
 
-  abbrev SpellsEnded : {A B : Type 0} → (List b.Token → Bool → A → Type 0) → (List b.Token → Bool → B → Type 0) → List A → List b.Token → Bool → B → Type 0
+  abbrev pub SpellsEnded : {A B : Type 0} → (List b.Token → Bool → A → Type 0) → (List b.Token → Bool → B → Type 0) → List A → List b.Token → Bool → B → Type 0
   SpellsEnded s s' [] ts o y = s' ts o y
   SpellsEnded s s' (x ∷ xs) ts o y = (us : List b.Token) × (vs : List b.Token) × (p : Bool) × (ts ≡ us ++ vs) × s us p x × SpellsEnded s s' xs vs o y
 
-  abbrev SpellsUntil : {A B : Type 0} → (List b.Token → Bool → A → Type 0) → (List b.Token → Bool → B → Type 0) → List b.Token → Bool → List A × B → Type 0
+  abbrev pub SpellsUntil : {A B : Type 0} → (List b.Token → Bool → A → Type 0) → (List b.Token → Bool → B → Type 0) → List b.Token → Bool → List A × B → Type 0
   SpellsUntil s s' ts o x = (us : List b.Token) × (vs : List b.Token) × (p : Bool) × (ts ≡ us ++ vs) × SpellsAll s us p x.0 × s' vs o x.1
 
   ended : {A B : Type 0} (s : List b.Token → Bool → A → Type 0) (s' : List b.Token → Bool → B → Type 0) (xs : List A) (y : B) (us vs : List b.Token) (p o : Bool) →
@@ -334,7 +334,7 @@ module _ (b : Base) (i : IsBase b) (t : Table b) where
         let r : (xs ≡ ys) × (x' ≡ y') = until_one xs ys x' y' h.1 j.1 o p c.1 h.5 j.5 in
         ((let r0 : xs ≡ ys = r.0 in cc), r.1)
 
-    known_until : Known b t (SpellsUntil s s') (union b f f') n' e'
+    pub known_until : Known b t (SpellsUntil s s') (union b f f') n' e'
     known_until = record {
       starts = λ m us ts o x q h. elim (until_starts x.0 x.1 m us ts o q (is_ended s s' ts o x h)) [ inl a ↦ union_left b i f f' m a | inr a ↦ union_right b i f f' m a ];
       some = λ w ts o x q h. until_some x.0 x.1 ts o q (is_ended s s' ts o x h);
@@ -347,7 +347,7 @@ module _ (b : Base) (i : IsBase b) (t : Table b) where
 
   -- ---- a tail
 
-  known_tail : {A B : Type 0} (s : List b.Token → Bool → A → Type 0) (w : b.Token → Bool) (s' : List b.Token → Bool → B → Type 0) (f n f' n' : Set b.Shape) (e' : Bool) →
+  pub known_tail : {A B : Type 0} (s : List b.Token → Bool → A → Type 0) (w : b.Token → Bool) (s' : List b.Token → Bool → B → Type 0) (f n f' n' : Set b.Shape) (e' : Bool) →
       Known b t s f n false → Known b t s' f' n' e' → ((m : b.Token) → w m ≡ true → b.fits t.tail_mark m ≡ true) → ((m : b.Token) → is_in b n m ≡ true → b.fits t.tail_mark m ≡ true → ⊥) →
       Known b t (λ ts o (x : A × Option B). SpellsTail s w s' ts o x.0 x.1) f (union b n n') false
   known_tail {A} {B} s w s' f n f' n' e' k k' a d = record {

@@ -17,7 +17,7 @@ one_more b l {A} g m ts c = go c.0 c.1 c.2
     go o [] s = absurd (nil_cons m ts s.0)
     go o (x ∷ xs) s = (o, (x, xs), s)
 
-alone : (b : Base) (l : Language b) {A : Type 0} (g : Gram b A) (ts : List b.Token) → Spelled b l g ts → Spelled b l (many g) ts
+pub alone : (b : Base) (l : Language b) {A : Type 0} (g : Gram b A) (ts : List b.Token) → Spelled b l g ts → Spelled b l (many g) ts
 alone b l g ts c = (c.0, c.1 ∷ [], (ts, [], c.0, false, sym (append-nil ts), c.2, (refl, refl), refl))
 
 -- one more is there
@@ -72,6 +72,14 @@ one_before : (b : Base) (l : Language b) {A B : Type 0} (g : Gram b A) (h : Gram
 one_before b l {A} {B} g h ts o x xs y s =
     let u : IsSpelled b l (until g h) s.1 s.3 (xs, y) = s.6 in
     (s.3, (s.0 ++ u.0, u.1, last_open u.0 s.2 u.2, s.4 ∙ ap (λ v. s.0 ++ v) u.3 ∙ sym (append_assoc s.0 u.0 u.1), (s.0, u.0, s.2, u.2, refl, s.5, u.4, refl), u.5))
+
+pub begins_more : (b : Base) (l : Language b) {A B : Type 0} (g : Gram b A) (h : Gram b B) (ts vs : List b.Token) → Spelled b l h vs → Begins b l g ts → Begins b l (until g h) ts
+begins_more b l {A} {B} g h ts vs d c = record {
+  more = c.more ++ vs;
+  ending = d.0;
+  tree = (c.tree ∷ [], d.1);
+  spelled = (ts ++ c.more, vs, c.ending, sym (append_assoc ts c.more vs), (ts ++ c.more, [], c.ending, false, sym (append-nil (ts ++ c.more)), c.spelled, (refl, refl), refl), d.2);
+}
 
 -- what ends them is not there
 pub until_more : {b : Base} {all low : Language b} {A B : Type 0} {h : Gram b B} {ts : List b.Token} (g : Gram b A) → Absent b all low h ts →

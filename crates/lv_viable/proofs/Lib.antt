@@ -14,3 +14,4 @@ pub mod Loops
 pub mod Tails
 pub mod Rules
 pub mod Opening
+pub mod Good

@@ -44,7 +44,7 @@ some_append f (p ∷ ps) qs e = go (f p) e (some_append f ps qs)
     go false e k = k e
 
 module _ (b : Base) (t : Table b) (l : Language b) (i : IsBase b) (a : IsLanguage b t l) where
-  tree : {A : Type 0} (g : Gram b A) → (us : List b.Token) × Spelled b l g us
+  pub tree : {A : Type 0} (g : Gram b A) → (us : List b.Token) × Spelled b l g us
   tree g = let w : HasTree (IsSpelled b l g) = tree_of b i t l.leaves (called b l) a.leaves a.witness g in (w.0, (w.1, w.2, w.3))
 
   empty : {A : Type 0} (g : Gram b A) → may_be_empty b g ≡ true → Spelled b l g []

@@ -59,7 +59,7 @@ pub data Turn (b : Base) (l : Language b) {A B : Type 0} (g : Gram b A) (h : Gra
   last : Spelled b l h ts → Turn b l g h ts
   more : Spelled b l (both g (until g h)) ts → Turn b l g h ts
 
-turn : (b : Base) (l : Language b) {A B : Type 0} (g : Gram b A) (h : Gram b B) (ts : List b.Token) → Spelled b l (until g h) ts → Turn b l g h ts
+pub turn : (b : Base) (l : Language b) {A B : Type 0} (g : Gram b A) (h : Gram b B) (ts : List b.Token) → Spelled b l (until g h) ts → Turn b l g h ts
 turn b l {A} {B} g h ts c = go c.0 c.1.0 c.1.1 c.2
   where
     go : (o : Bool) (xs : List A) (y : B) → IsSpelled b l (until g h) ts o (xs, y) → Turn b l g h ts

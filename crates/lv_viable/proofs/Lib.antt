@@ -15,3 +15,4 @@ pub mod Tails
 pub mod Rules
 pub mod Opening
 pub mod Good
+pub mod Ways

@@ -1,20 +1,21 @@
 -- What readers ask of grammars, computed.
-use Rattle.std.proofs.Common.{◌≡◌, List, [], ◌∷◌, ◌++◌, Bool, true, false, ◌&&◌, not, refl, ap, sym, subst, ◌∙◌, ◌⊎◌, inl, inr}
+use Rattle.std.proofs.Common.{◌≡◌, ℕ, List, [], ◌∷◌, ◌++◌, Bool, true, false, ◌&&◌, not, refl, ap, sym, subst, ◌∙◌, ◌⊎◌, inl, inr}
 use Rattle.lv_viable.specs.Grammar.{Base, Gram, call, both, many, until, tail}
-use Rattle.lv_viable.specs.Spelling.{Rules, Language, called, IsSpelled, inner}
-use Rattle.lv_viable.specs.Sets.{Set, these, Table, is_in, apart, may_be_empty, first, next, is_good, rule_fits}
-use Rattle.lv_viable.specs.Reading.{Begins}
+use Rattle.lv_viable.specs.Spelling.{allows, Rules, Language, called, IsSpelled, inner}
+use Rattle.lv_viable.specs.Sets.{among, Set, these, Table, is_in, apart, may_be_empty, first, next, is_good, rule_fits}
+use Rattle.lv_viable.specs.Reading.{Begins, Fails, PassesLimit}
 use Rattle.lv_viable.specs.Facts.{IsBase, IsLanguage, IsWithin, Facts}
-use Rattle.lv_viable.proofs.Lists.{true_false, of_not, same_head}
+use Rattle.lv_viable.proofs.Lists.{true_false, of_not, not_or, same_head, nil_cons}
 use Rattle.lv_viable.proofs.SetLaws.{apart_is, of_one}
 use Rattle.lv_viable.proofs.Calls.{is_within, inner_within}
 use Rattle.lv_viable.proofs.Grammars.{four_true, five_true, nine_true}
 use Rattle.lv_viable.proofs.FactsOf.{facts_of}
-use Rattle.lv_viable.proofs.Readers.{Spelled, Absent}
+use Rattle.lv_viable.proofs.Readers.{Spelled, Absent, Opens, absent_fails}
 use Rattle.lv_viable.proofs.Pairs.{Both}
 use Rattle.lv_viable.proofs.Repeats.{Turn, turn, last, more}
 use Rattle.lv_viable.proofs.Tails.{Tail}
-use Rattle.lv_viable.proofs.Opening.{tree}
+use Rattle.lv_viable.proofs.Rules.{call_high}
+use Rattle.lv_viable.proofs.Opening.{shapes, opens_of, tree}
 
 -- a language without limits that is as its table says, and the same within limits
 pub record Setting (b : Base) (t : Table b) (all low : Language b) : Type 1 where
@@ -26,8 +27,19 @@ pub inner_setting : {b : Base} {t : Table b} {all low : Language b} (r : b.Rule)
 inner_setting {b} {t} {all} {low} r s = record { base = s.base; language = s.language; within = inner_within b low all r s.within }
 
 -- no next token is among those that begin trees
-abbrev pub Outside : (b : Base) (t : Table b) {A : Type 0} → Gram b A → List b.Token → Type 0
-Outside b t g ts = (m : b.Token) (us : List b.Token) → ts ≡ m ∷ us → is_in b (first b t g) m ≡ false
+pub record Outside (b : Base) (t : Table b) {A : Type 0} (g : Gram b A) (ts : List b.Token) : Type 0 where
+  pub out : (m : b.Token) (us : List b.Token) → ts ≡ m ∷ us → is_in b (first b t g) m ≡ false
+
+pub outside_nothing : {b : Base} {t : Table b} {A : Type 0} {g : Gram b A} → Outside b t g []
+outside_nothing = record { out = λ m us e. absurd (nil_cons m us (sym e)) }
+
+pub outside_token : {b : Base} {t : Table b} {A : Type 0} {g : Gram b A} {m : b.Token} {us : List b.Token} → is_in b (first b t g) m ≡ false → Outside b t g (m ∷ us)
+outside_token {b} {t} {g = g} {m = m} {us = us} f = record { out = λ n vs e. subst (λ (v : b.Token). is_in b (first b t g) v ≡ false) (same_head m n us vs e) f }
+
+-- of grammars that begin with a token of one shape alone
+pub outside_one : {b : Base} {t : Table b} {A : Type 0} {g : Gram b A} {ts : List b.Token} (p : b.Shape) → first b t g ≡ these (p ∷ []) →
+    ((m : b.Token) (us : List b.Token) → ts ≡ m ∷ us → b.fits p m ≡ false) → Outside b t g ts
+outside_one {b} p q f = record { out = λ m us e. ap (λ v. is_in b v m) q ∙ not_or (b.fits p m) false (f m us e) refl }
 
 module _ {b : Base} {t : Table b} {all low : Language b} (s : Setting b t all low) where
   facts : {A : Type 0} (g : Gram b A) → is_good b t g ≡ true → Facts b t all g
@@ -38,10 +50,25 @@ module _ {b : Base} {t : Table b} {all low : Language b} (s : Setting b t all lo
 
   pub absent_of : {A : Type 0} {g : Gram b A} {ts : List b.Token} → is_good b t g ≡ true → may_be_empty b g ≡ false → Outside b t g ts → Absent b all low g ts
   absent_of {g = g} z e f = record {
-    off = λ m us vs q c. true_false (is_in b (first b t g) m) ((facts g z).starts m vs c.0 c.1 c.2) (f m us q);
+    off = λ m us vs q c. true_false (is_in b (first b t g) m) ((facts g z).starts m vs c.0 c.1 c.2) (f.out m us q);
     some = λ c. (facts g z).some e c.0 c.1 c.2;
     within = up g;
   }
+
+  -- where no tree begins with the next token nothing is read
+  pub fails_outside : {A : Type 0} {g : Gram b A} {ts : List b.Token} → is_good b t g ≡ true → may_be_empty b g ≡ false → Outside b t g ts → Fails b all g ts ts
+  fails_outside z e f = absent_fails (absent_of z e f)
+
+  pub call_outside : (r : b.Rule) {ts : List b.Token} → Outside b t (call r) ts → Fails b all (call r) ts ts
+  call_outside r f = fails_outside refl refl f
+
+  -- where one does, in a rule that the limits don't allow, a limit is passed
+  pub call_passes : (r : b.Rule) {ts : List b.Token} → allows (low.limits (b.count r)) ≡ false → Opens b all (call r) ts → PassesLimit b all low (call r) ts ts
+  call_passes r {ts} a o = call_high s.within r ts a o
+
+  -- a token of a shape of which it is computed, n rules deep, that trees begin with it
+  pub opens : (n : ℕ) (p : b.Shape) {A : Type 0} {g : Gram b A} {m : b.Token} {us : List b.Token} → among b (shapes b all.rules n g) p ≡ true → b.fits p m ≡ true → Opens b all g (m ∷ us)
+  opens n p {m = m} {us = us} e f = opens_of b t all s.base s.language n p m us e f
 
   pub call_absent : {r : b.Rule} {ts : List b.Token} → Outside b t (call r) ts → Absent b all low (call r) ts
   call_absent f = absent_of refl refl f

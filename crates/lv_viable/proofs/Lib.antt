@@ -16,3 +16,4 @@ pub mod Rules
 pub mod Opening
 pub mod Good
 pub mod Ways
+pub mod Rounds

@@ -5,6 +5,7 @@ use Rattle.lv_viable.proofs.Rules
 use Rattle.lv_viable.proofs.Opening
 use Rattle.lv_viable.proofs.Good
 use Rattle.lv_viable.proofs.Ways
+use Rattle.lv_viable.proofs.Rounds
 use Rattle.lv_viable.proofs.Choices
 use Rattle.lv_viable.proofs.Repeats
 use Rattle.lv_viable.proofs.nothing_is_read.Goals as goal

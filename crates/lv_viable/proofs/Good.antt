@@ -10,7 +10,7 @@ use Rattle.lv_viable.proofs.SetLaws.{apart_is, of_one}
 use Rattle.lv_viable.proofs.Calls.{is_within, inner_within}
 use Rattle.lv_viable.proofs.Grammars.{four_true, five_true, nine_true}
 use Rattle.lv_viable.proofs.FactsOf.{facts_of}
-use Rattle.lv_viable.proofs.Readers.{Spelled, Absent, Opens, absent_fails}
+use Rattle.lv_viable.proofs.Readers.{Lacks, Spelled, Absent, Opens, absent_fails}
 use Rattle.lv_viable.proofs.Pairs.{Both}
 use Rattle.lv_viable.proofs.Repeats.{Turn, turn, last, more}
 use Rattle.lv_viable.proofs.Tails.{Tail}
@@ -37,9 +37,8 @@ pub outside_token : {b : Base} {t : Table b} {A : Type 0} {g : Gram b A} {m : b.
 outside_token {b} {t} {g = g} {m = m} {us = us} f = record { out = λ n vs e. subst (λ (v : b.Token). is_in b (first b t g) v ≡ false) (same_head m n us vs e) f }
 
 -- of grammars that begin with a token of one shape alone
-pub outside_one : {b : Base} {t : Table b} {A : Type 0} {g : Gram b A} {ts : List b.Token} (p : b.Shape) → first b t g ≡ these (p ∷ []) →
-    ((m : b.Token) (us : List b.Token) → ts ≡ m ∷ us → b.fits p m ≡ false) → Outside b t g ts
-outside_one {b} p q f = record { out = λ m us e. ap (λ v. is_in b v m) q ∙ not_or (b.fits p m) false (f m us e) refl }
+pub outside_one : {b : Base} {t : Table b} {A : Type 0} {g : Gram b A} {ts : List b.Token} {p : b.Shape} → first b t g ≡ these (p ∷ []) → Lacks b p ts → Outside b t g ts
+outside_one {b} {p = p} q f = record { out = λ m us e. ap (λ v. is_in b v m) q ∙ not_or (b.fits p m) false (f.out m us e) refl }
 
 module _ {b : Base} {t : Table b} {all low : Language b} (s : Setting b t all low) where
   facts : {A : Type 0} (g : Gram b A) → is_good b t g ≡ true → Facts b t all g

@@ -4,7 +4,7 @@ use Rattle.lv_viable.specs.Grammar.{Base, Gram, none, one, act}
 use Rattle.lv_viable.specs.Spelling.{Language, IsSpelled}
 use Rattle.lv_viable.specs.Reading.{Begins, Reads, Fails, PassesLimit}
 use Rattle.lv_viable.specs.At.{At}
-use Rattle.lv_viable.proofs.Lists.{nil_cons, true_false}
+use Rattle.lv_viable.proofs.Lists.{nil_cons, same_head, true_false}
 
 -- the head of what a front and a token of its rest begin
 pub head_of : {T : Type 0} (ts front rest : List T) (t : T) (us more : List T) → ts ≡ front ++ rest → rest ≡ t ∷ us →
@@ -21,6 +21,16 @@ pub record Absent (b : Base) (all low : Language b) {A : Type 0} (g : Gram b A) 
   pub off : (m : b.Token) (us vs : List b.Token) → ts ≡ m ∷ us → Spelled b all g (m ∷ vs) → ⊥
   pub some : Spelled b all g [] → ⊥
   pub within : (us : List b.Token) → Spelled b low g us → Spelled b all g us
+
+-- the next token, if there is one, is not of this shape
+pub record Lacks (b : Base) (p : b.Shape) (ts : List b.Token) : Type 0 where
+  pub out : (m : b.Token) (us : List b.Token) → ts ≡ m ∷ us → b.fits p m ≡ false
+
+pub lacks_nothing : {b : Base} {p : b.Shape} → Lacks b p []
+lacks_nothing = record { out = λ m us e. absurd (nil_cons m us (sym e)) }
+
+pub lacks_token : {b : Base} {p : b.Shape} {m : b.Token} {us : List b.Token} → b.fits p m ≡ false → Lacks b p (m ∷ us)
+lacks_token {b} {p} {m} {us} f = record { out = λ n vs e. subst (λ (v : b.Token). b.fits p v ≡ false) (same_head m n us vs e) f }
 
 -- some tree begins with the next token
 pub record Opens (b : Base) (l : Language b) {A : Type 0} (g : Gram b A) (ts : List b.Token) : Type 0 where
@@ -67,9 +77,9 @@ one_reads {b} {all} {low} p t us f = record {
     longer : (m : b.Token) (ms : List b.Token) (x : b.Token) → t ∷ (m ∷ ms) ≡ x ∷ [] → ⊥
     longer m ms x e = cc
 
-pub one_absent : {b : Base} {all low : Language b} (p : b.Shape) (ts : List b.Token) → ((t : b.Token) (us : List b.Token) → ts ≡ t ∷ us → b.fits p t ≡ false) → Absent b all low (one p) ts
-one_absent {b} {all} {low} p ts f = record {
-  off = λ m us vs e c. clash m vs c.1 c.2.0 c.2.1 (f m us e);
+pub one_absent : {b : Base} {all low : Language b} {p : b.Shape} {ts : List b.Token} → Lacks b p ts → Absent b all low (one p) ts
+one_absent {b} {all} {low} {p} {ts} f = record {
+  off = λ m us vs e c. clash m vs c.1 c.2.0 c.2.1 (f.out m us e);
   some = λ c. nil_cons c.1 [] (sym c.2.0);
   within = λ us c. c;
 }
@@ -77,8 +87,8 @@ one_absent {b} {all} {low} p ts f = record {
     clash : (m : b.Token) (vs : List b.Token) (x : b.Token) → m ∷ vs ≡ x ∷ [] → b.fits p x ≡ true → b.fits p m ≡ false → ⊥
     clash m vs x g h k = let q : x ≡ m = cc in true_false (b.fits p x) h (ap (b.fits p) q ∙ k)
 
-pub one_fails : {b : Base} {all : Language b} (p : b.Shape) (ts : List b.Token) → ((t : b.Token) (us : List b.Token) → ts ≡ t ∷ us → b.fits p t ≡ false) → Fails b all (one p) ts ts
-one_fails {b} {all} p ts f = absent_fails (one_absent {all = all} {low = all} p ts f)
+pub one_fails : {b : Base} {all : Language b} {p : b.Shape} {ts : List b.Token} → Lacks b p ts → Fails b all (one p) ts ts
+one_fails {all = all} f = absent_fails (one_absent {low = all} f)
 
 pub one_opens : {b : Base} {l : Language b} (p : b.Shape) (t : b.Token) → b.fits p t ≡ true → Begins b l (one p) (t ∷ [])
 one_opens p t f = record { more = []; ending = false; tree = t; spelled = (refl, f, refl) }

@@ -5,7 +5,7 @@ use Rattle.lv_viable.specs.Spelling.{Language, IsSpelled}
 use Rattle.lv_viable.specs.Reading.{Begins, Reads, Fails, PassesLimit}
 use Rattle.lv_viable.specs.At.{At}
 use Rattle.lv_viable.proofs.Lists.{Cuts, cuts, longer, same, shorter, true_false}
-use Rattle.lv_viable.proofs.Readers.{Spelled, begun}
+use Rattle.lv_viable.proofs.Readers.{Lacks, Spelled, begun}
 use Rattle.lv_viable.proofs.Pairs.{past, whole}
 
 -- A rule whose open trees go on with the token before a tail, and whose other trees don't.
@@ -130,7 +130,7 @@ module _ (b : Base) (all low : Language b) {B : Type 0} (r : b.Rule) (p : b.Shap
           })
 
   -- the rule's tree is read, and no tail begins
-  pub without : (ts us : List b.Token) (x : b.RuleTree r) → Reads b all low (call r) ts x us → ((t : b.Token) (vs : List b.Token) → us ≡ t ∷ vs → b.fits p t ≡ false) → Reads b all low (tail r p h) ts (x, None) us
+  pub without : (ts us : List b.Token) (x : b.RuleTree r) → Reads b all low (call r) ts x us → Lacks b p us → Reads b all low (tail r p h) ts (x, None) us
   without ts us x q f = record {
     front = q.front;
     ending = true;
@@ -144,7 +144,7 @@ module _ (b : Base) (all low : Language b) {B : Type 0} (r : b.Rule) (p : b.Shap
       stuck t vs more e (tailed us' n vs' z g d i j) =
           let m : (us' ≡ q.front) × (n ≡ t) × (vs' ≡ more) =
           meets us' n vs' q.front t more z d i (q.ending, x, k.left q.front q.ending x q.spelled) (λ c. q.ends t vs e c) (sym g ∙ append_assoc q.front (t ∷ []) more) in
-          true_false (b.fits p n) i (ap (b.fits p) m.1 ∙ f t vs e)
+          true_false (b.fits p n) i (ap (b.fits p) m.1 ∙ f.out t vs e)
 
   -- the rule's tree is not read
   pub fails : (ts rest : List b.Token) → Fails b all (call r) ts rest → Fails b all (tail r p h) ts rest

@@ -7,7 +7,7 @@ use Rattle.lv_viable.specs.Reading.{Reads, Fails, PassesLimit}
 use Rattle.lv_viable.specs.At.{At, Way, Standing, StandingUntil}
 use Rattle.lv_viable.proofs.Lists.{and_left, and_right, of_not}
 use Rattle.lv_viable.proofs.Grammars.{four_true, five_true, nine_true}
-use Rattle.lv_viable.proofs.Readers.{Absent, Opens, one_reads, one_fails}
+use Rattle.lv_viable.proofs.Readers.{Lacks, Absent, Opens, one_reads, one_fails}
 use Rattle.lv_viable.proofs.Straight.{start, onward, step, stops, is_high, seen}
 use Rattle.lv_viable.proofs.Choices.{left_at, right_at, perhaps_at, perhaps_none}
 use Rattle.lv_viable.proofs.Loops.{stand_more, stand_fails, stand_high, stand_done, until_next, until_fails, until_high, until_done}
@@ -59,8 +59,8 @@ then_one {p = p} {m = m} {us = us} s w f = then s w (one_reads p m us f)
 
 -- it is not
 pub stop_one : {b : Base} {t : Table b} {all low inner : Language b} {A C : Type 0} {g : Gram b A} {p : b.Shape} {h : Gram b C} {ts us : List b.Token} {build : b.Token × C → A} →
-    Setting b t all inner → Way b t all low g ts inner (both (one p) h) us build → ((m : b.Token) (vs : List b.Token) → us ≡ m ∷ vs → b.fits p m ≡ false) → Fails b all g ts us
-stop_one {p = p} {us = us} s w f = stop s w (one_fails p us f)
+    Setting b t all inner → Way b t all low g ts inner (both (one p) h) us build → Lacks b p us → Fails b all g ts us
+stop_one s w f = stop s w (one_fails f)
 
 -- the last part
 pub last_one : {b : Base} {t : Table b} {all low inner : Language b} {A : Type 0} {g : Gram b A} {p : b.Shape} {ts : List b.Token} {m : b.Token} {us : List b.Token} {build : b.Token → A} →
@@ -68,8 +68,8 @@ pub last_one : {b : Base} {t : Table b} {all low inner : Language b} {A : Type 0
 last_one {p = p} {m = m} {us = us} w f = w.at.reads m us (one_reads p m us f)
 
 pub last_not : {b : Base} {t : Table b} {all low inner : Language b} {A : Type 0} {g : Gram b A} {p : b.Shape} {ts us : List b.Token} {build : b.Token → A} →
-    Way b t all low g ts inner (one p) us build → ((m : b.Token) (vs : List b.Token) → us ≡ m ∷ vs → b.fits p m ≡ false) → Fails b all g ts us
-last_not {p = p} {us = us} w f = w.at.fails us (one_fails p us f)
+    Way b t all low g ts inner (one p) us build → Lacks b p us → Fails b all g ts us
+last_not {us = us} w f = w.at.fails us (one_fails f)
 
 pub last : {b : Base} {t : Table b} {all low inner : Language b} {A B : Type 0} {g : Gram b A} {h : Gram b B} {ts us rest : List b.Token} {build : B → A} {y : B} →
     Way b t all low g ts inner h us build → Reads b all inner h us y rest → Reads b all low g ts (build y) rest
@@ -133,7 +133,7 @@ to_tail {b} {t} {all} {inner = inner} {r = r} {p = p} {h = h} {us = us} {m = m} 
     tail_good = let z : (is_good b t h ≡ true) × (not (may_be_empty b h) ≡ true) × (b.same p t.tail_mark ≡ true) × (apart b (t.rule_next r) (these (t.tail_mark ∷ [])) ≡ true) = four_true _ _ _ _ w.good in z.0
 
 pub no_tail : {b : Base} {t : Table b} {all low inner : Language b} {A B : Type 0} {g : Gram b A} {r : b.Rule} {p : b.Shape} {h : Gram b B} {ts us vs : List b.Token} {build : b.RuleTree r × Option B → A} {x : b.RuleTree r} →
-    Setting b t all inner → Way b t all low g ts inner (tail r p h) us build → Reads b all inner (call r) us x vs → ((m : b.Token) (ws : List b.Token) → vs ≡ m ∷ ws → b.fits p m ≡ false) → Reads b all low g ts (build (x, None)) vs
+    Setting b t all inner → Way b t all low g ts inner (tail r p h) us build → Reads b all inner (call r) us x vs → Lacks b p vs → Reads b all low g ts (build (x, None)) vs
 no_tail {b} {all = all} {inner = inner} {r = r} {p = p} {h = h} {us = us} {vs = vs} {x = x} s w q f = w.at.reads (x, None) vs (Tails.without b all inner r p h (tail_of s w.good) us vs x q f)
 
 pub tail_stops : {b : Base} {t : Table b} {all low inner : Language b} {A B : Type 0} {g : Gram b A} {r : b.Rule} {p : b.Shape} {h : Gram b B} {ts us rest : List b.Token} {build : b.RuleTree r × Option B → A} →

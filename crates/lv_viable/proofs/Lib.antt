@@ -5,3 +5,4 @@ pub mod Known
 pub mod Grammars
 pub mod Hangs
 pub mod FactsOf
+pub mod OneAnswer

@@ -5,4 +5,15 @@ pub mod Known
 pub mod Grammars
 pub mod Hangs
 pub mod FactsOf
+pub mod Readers
+pub mod Pairs
+pub mod Straight
+pub mod Choices
+pub mod Repeats
+pub mod Loops
+pub mod Tails
+pub mod Rules
+pub mod Opening
+pub mod Good
+pub mod Ways
 pub mod OneAnswer

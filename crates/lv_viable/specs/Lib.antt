@@ -3,3 +3,4 @@ pub mod Spelling
 pub mod Sets
 pub mod Reading
 pub mod Facts
+pub mod At

@@ -3,7 +3,7 @@
 #![tactic(auto)]
 
 ghost use Rattle.std.specs.Prelude.{◌≡◌, ◌↔◌, List, Bool, true, false};
-ghost use Rattle.lv_viable.specs.Grammar.{Base, Gram};
+ghost use Rattle.lv_viable.specs.Grammar.{Base, Gram, none};
 ghost use Rattle.lv_viable.specs.Spelling.{Language, IsSpelled, called, allows, inner};
 ghost use Rattle.lv_viable.specs.Sets.{Table, Set, is_in, union, apart, within, is_good};
 ghost use Rattle.lv_viable.specs.Reading.{Reads, Fails, PassesLimit};
@@ -61,4 +61,9 @@ pub fn one_answer<X: Spelled>()
         Reads X.base X.all X.low X.grammar ts x us → Reads X.base X.all X.low X.grammar ts y vs → (x ≡ y) × (us ≡ vs) }
     ensures failure { (ts us rest : List X.base.Token) (x : X) → Reads X.base X.all X.low X.grammar ts x us → Fails X.base X.all X.grammar ts rest → ⊥ }
     ensures passing { (ts us rest : List X.base.Token) (x : X) → Reads X.base X.all X.low X.grammar ts x us → PassesLimit X.base X.all X.low X.grammar ts rest → ⊥ }
+{}
+
+/// Nothing is always read.
+pub fn nothing_is_read<X: Spelled>()
+    ensures { (ts : List X.base.Token) → Reads X.base X.all X.all none ts tt ts }
 {}

@@ -17,3 +17,4 @@ pub mod Opening
 pub mod Good
 pub mod Ways
 pub mod Rounds
+pub mod OneAnswer

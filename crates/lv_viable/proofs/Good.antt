@@ -1,9 +1,9 @@
 -- What readers ask of grammars, computed.
-use Rattle.std.proofs.Common.{◌≡◌, ℕ, List, [], ◌∷◌, ◌++◌, Bool, true, false, ◌&&◌, not, refl, ap, sym, subst, ◌∙◌, ◌⊎◌, inl, inr}
+use Rattle.std.proofs.Common.{◌≡◌, ℕ, List, [], ◌∷◌, ◌++◌, Bool, true, false, ◌&&◌, not, refl, ap, sym, subst, ◌∙◌, inl, inr}
 use Rattle.lv_viable.specs.Grammar.{Base, Gram, call, both, many, until, tail}
-use Rattle.lv_viable.specs.Spelling.{allows, Rules, Language, called, IsSpelled, inner}
-use Rattle.lv_viable.specs.Sets.{among, Set, these, Table, is_in, apart, may_be_empty, first, next, is_good, rule_fits}
-use Rattle.lv_viable.specs.Reading.{Begins, Fails, PassesLimit}
+use Rattle.lv_viable.specs.Spelling.{allows, Rules, Language, inner}
+use Rattle.lv_viable.specs.Sets.{among, shapes, these, Table, is_in, apart, may_be_empty, first, next, is_good}
+use Rattle.lv_viable.specs.Reading.{Fails, PassesLimit}
 use Rattle.lv_viable.specs.Facts.{IsBase, IsLanguage, IsWithin, Facts}
 use Rattle.lv_viable.proofs.Lists.{true_false, of_not, not_or, same_head, nil_cons}
 use Rattle.lv_viable.proofs.SetLaws.{apart_is, of_one}
@@ -15,7 +15,7 @@ use Rattle.lv_viable.proofs.Pairs.{Both}
 use Rattle.lv_viable.proofs.Repeats.{Turn, turn, last, more}
 use Rattle.lv_viable.proofs.Tails.{Tail}
 use Rattle.lv_viable.proofs.Rules.{call_high}
-use Rattle.lv_viable.proofs.Opening.{shapes, opens_of, tree}
+use Rattle.lv_viable.proofs.Opening.{opens_of, tree}
 
 -- a language without limits that is as its table says, and the same within limits
 pub record Setting (b : Base) (t : Table b) (all low : Language b) : Type 1 where

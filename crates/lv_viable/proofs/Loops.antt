@@ -1,6 +1,6 @@
 -- Readers that append each tree that they read to a list.
-use Rattle.std.proofs.Common.{◌≡◌, List, [], ◌∷◌, ◌++◌, refl, ap, sym, subst, append_assoc, append-nil}
-use Rattle.lv_viable.specs.Grammar.{Base, Gram, both, many, until}
+use Rattle.std.proofs.Common.{List, [], ◌∷◌, ◌++◌, ap, sym, subst, append_assoc, append-nil}
+use Rattle.lv_viable.specs.Grammar.{Base, Gram, many, until}
 use Rattle.lv_viable.specs.Spelling.{Language}
 use Rattle.lv_viable.specs.Reading.{Reads, Fails, PassesLimit}
 use Rattle.lv_viable.specs.At.{At, Standing, StandingUntil}

@@ -1,8 +1,8 @@
 -- Tokens of which it is computed that trees begin with them.
-use Rattle.std.proofs.Common.{◌≡◌, ℕ, zero, suc, List, [], ◌∷◌, ◌++◌, Bool, true, false, ◌&&◌, ◌||◌, if◌then◌else◌, Option, Some, None, refl, ap, sym, subst, ◌∙◌, append-nil, ◌⊎◌, inl, inr}
-use Rattle.lv_viable.specs.Grammar.{Base, Gram, OneOf, left, right, none, one, leaf, call, act, both, either, perhaps, many, until, tail}
-use Rattle.lv_viable.specs.Spelling.{Rules, Language, called, IsSpelled}
-use Rattle.lv_viable.specs.Sets.{Table, some_of, among, may_be_empty}
+use Rattle.std.proofs.Common.{◌≡◌, ℕ, zero, suc, List, [], ◌∷◌, ◌++◌, Bool, true, false, ◌||◌, if◌then◌else◌, Some, None, refl, subst, ◌⊎◌, inl, inr}
+use Rattle.lv_viable.specs.Grammar.{Base, Gram, left, right, none, one, leaf, call, act, both, either, perhaps, many, until, tail}
+use Rattle.lv_viable.specs.Spelling.{Language, called, IsSpelled}
+use Rattle.lv_viable.specs.Sets.{Table, some_of, among, may_be_empty, shapes_in, rule_shapes, shapes}
 use Rattle.lv_viable.specs.Reading.{Begins}
 use Rattle.lv_viable.specs.Facts.{IsBase, IsLanguage}
 use Rattle.lv_viable.proofs.Lists.{true_false, and_left, and_right, or_cases}
@@ -12,28 +12,6 @@ use Rattle.lv_viable.proofs.Grammars.{tree_of}
 use Rattle.lv_viable.proofs.Readers.{Spelled, Opens, begun, one_opens}
 use Rattle.lv_viable.proofs.Pairs.{join, begins_left, begins_right}
 use Rattle.lv_viable.proofs.Repeats.{alone, begins_more}
-
--- shapes that begin trees, from those that begin the rules'
-abbrev pub shapes_in : (b : Base) → (b.Rule → List b.Shape) → {A : Type 0} → Gram b A → List b.Shape
-shapes_in b c none = []
-shapes_in b c (one p) = p ∷ []
-shapes_in b c (leaf k) = []
-shapes_in b c (call r) = c r
-shapes_in b c (act f g) = shapes_in b c g
-shapes_in b c (both g h) = shapes_in b c g ++ (if may_be_empty b g then shapes_in b c h else [])
-shapes_in b c (either g h) = shapes_in b c g ++ shapes_in b c h
-shapes_in b c (perhaps g) = shapes_in b c g
-shapes_in b c (many g) = shapes_in b c g
-shapes_in b c (until g h) = shapes_in b c g ++ shapes_in b c h
-shapes_in b c (tail r p h) = c r
-
--- the same of rules, n deep
-abbrev pub rule_shapes : (b : Base) → Rules b → ℕ → b.Rule → List b.Shape
-rule_shapes b g zero r = []
-rule_shapes b g (suc n) r = shapes_in b (rule_shapes b g n) (g r)
-
-abbrev pub shapes : (b : Base) → Rules b → ℕ → {A : Type 0} → Gram b A → List b.Shape
-shapes b g n h = shapes_in b (rule_shapes b g n) h
 
 some_append : {P : Type 0} (f : P → Bool) (ps qs : List P) → some_of f (ps ++ qs) ≡ true → (some_of f ps ≡ true) ⊎ (some_of f qs ≡ true)
 some_append f [] qs e = inr e
@@ -101,5 +79,8 @@ module _ (b : Base) (t : Table b) (l : Language b) (i : IsBase b) (a : IsLanguag
       begun (m ∷ []) w.more (w.ending, w.tree, free_is_called b l a.free r ((m ∷ []) ++ w.more) w.ending w.tree w.spelled)
 
   -- a token of a shape that begins trees, n rules deep
+  pub opens_with : (n : ℕ) (p : b.Shape) {A : Type 0} {g : Gram b A} (m : b.Token) → among b (shapes b l.rules n g) p ≡ true → b.fits p m ≡ true → Begins b l g (m ∷ [])
+  opens_with n p {g = g} m e f = opens_in (rule_shapes b l.rules n) p m f (opens_rule p m f n) g e
+
   pub opens_of : (n : ℕ) (p : b.Shape) {A : Type 0} {g : Gram b A} (m : b.Token) (us : List b.Token) → among b (shapes b l.rules n g) p ≡ true → b.fits p m ≡ true → Opens b l g (m ∷ us)
-  opens_of n p {g = g} m us e f = record { token = m; others = us; cut = refl; alive = opens_in (rule_shapes b l.rules n) p m f (opens_rule p m f n) g e }
+  opens_of n p m us e f = record { token = m; others = us; cut = refl; alive = opens_with n p m e f }

@@ -1,7 +1,7 @@
 -- Readers of one grammar after the other.
-use Rattle.std.proofs.Common.{◌≡◌, List, [], ◌∷◌, ◌++◌, Bool, refl, ap, sym, subst, ◌∙◌, append_assoc, append-nil}
+use Rattle.std.proofs.Common.{◌≡◌, List, [], ◌∷◌, ◌++◌, refl, ap, sym, subst, ◌∙◌, append_assoc, append-nil}
 use Rattle.lv_viable.specs.Grammar.{Base, Gram, both}
-use Rattle.lv_viable.specs.Spelling.{Language, IsSpelled, last_open}
+use Rattle.lv_viable.specs.Spelling.{Language, last_open}
 use Rattle.lv_viable.specs.Reading.{Begins, Reads, Fails, PassesLimit}
 use Rattle.lv_viable.specs.At.{At}
 use Rattle.lv_viable.proofs.Lists.{Cuts, cuts, longer, same, shorter}

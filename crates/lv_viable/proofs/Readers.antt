@@ -2,7 +2,7 @@
 use Rattle.std.proofs.Common.{◌≡◌, List, [], ◌∷◌, ◌++◌, Bool, true, false, refl, ap, sym, subst, ◌∙◌}
 use Rattle.lv_viable.specs.Grammar.{Base, Gram, none, one, act}
 use Rattle.lv_viable.specs.Spelling.{Language, IsSpelled}
-use Rattle.lv_viable.specs.Reading.{Begins, Reads, Fails, PassesLimit}
+use Rattle.lv_viable.specs.Reading.{Begins, Reads, Fails}
 use Rattle.lv_viable.specs.At.{At}
 use Rattle.lv_viable.proofs.Lists.{nil_cons, same_head, true_false}
 

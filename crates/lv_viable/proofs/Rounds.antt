@@ -1,10 +1,10 @@
 -- Readers of good grammars that append each tree that they read to a list.
-use Rattle.std.proofs.Common.{◌≡◌, List, [], ◌∷◌, ◌++◌, Bool, true, false, not, ◌&&◌}
+use Rattle.std.proofs.Common.{◌≡◌, List, [], ◌∷◌, ◌++◌, true, false, not}
 use Rattle.lv_viable.specs.Grammar.{Base, Gram, many, until}
 use Rattle.lv_viable.specs.Spelling.{Language}
 use Rattle.lv_viable.specs.Sets.{Table, these, apart, may_be_empty, first, next, is_good}
 use Rattle.lv_viable.specs.Reading.{Reads, Fails, PassesLimit}
-use Rattle.lv_viable.specs.At.{At, Way, Standing, StandingUntil}
+use Rattle.lv_viable.specs.At.{Way, Standing, StandingUntil}
 use Rattle.lv_viable.proofs.Lists.{of_not}
 use Rattle.lv_viable.proofs.Grammars.{four_true, nine_true}
 use Rattle.lv_viable.proofs.Readers.{Opens}

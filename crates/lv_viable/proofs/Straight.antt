@@ -1,5 +1,5 @@
 -- Readers that read one part after the other.
-use Rattle.std.proofs.Common.{◌≡◌, List, refl, subst}
+use Rattle.std.proofs.Common.{◌≡◌, List, subst}
 use Rattle.lv_viable.specs.Grammar.{Base, Gram, both, act}
 use Rattle.lv_viable.specs.Spelling.{Language}
 use Rattle.lv_viable.specs.Reading.{Reads, Fails, PassesLimit}

@@ -1,19 +1,18 @@
 -- Readers of good grammars, part by part.
-use Rattle.std.proofs.Common.{◌≡◌, List, [], ◌∷◌, ◌++◌, Bool, true, false, ◌&&◌, not, Option, Some, None, refl}
-use Rattle.lv_viable.specs.Grammar.{Base, Gram, OneOf, left, right, one, call, act, both, either, perhaps, many, until, tail}
+use Rattle.std.proofs.Common.{◌≡◌, List, [], ◌∷◌, true, false, not, Option, Some, None}
+use Rattle.lv_viable.specs.Grammar.{Base, Gram, OneOf, left, right, one, call, act, both, either, perhaps, tail}
 use Rattle.lv_viable.specs.Spelling.{Language, allows, inner}
 use Rattle.lv_viable.specs.Sets.{Table, these, apart, may_be_empty, first, next, is_good}
 use Rattle.lv_viable.specs.Reading.{Reads, Fails, PassesLimit}
-use Rattle.lv_viable.specs.At.{At, Way, Standing, StandingUntil}
+use Rattle.lv_viable.specs.At.{Way}
 use Rattle.lv_viable.proofs.Lists.{and_left, and_right, of_not}
-use Rattle.lv_viable.proofs.Grammars.{four_true, five_true, nine_true}
-use Rattle.lv_viable.proofs.Readers.{Lacks, Absent, Opens, one_reads, one_fails}
+use Rattle.lv_viable.proofs.Grammars.{four_true, five_true}
+use Rattle.lv_viable.proofs.Readers.{Lacks, Opens, one_reads, one_fails}
 use Rattle.lv_viable.proofs.Straight.{start, onward, step, stops, is_high, seen}
 use Rattle.lv_viable.proofs.Choices.{left_at, right_at, perhaps_at, perhaps_none}
-use Rattle.lv_viable.proofs.Loops.{stand_more, stand_fails, stand_high, stand_done, until_next, until_fails, until_high, until_done}
 use Rattle.lv_viable.proofs.Tails
 use Rattle.lv_viable.proofs.Rules.{call_at}
-use Rattle.lv_viable.proofs.Good.{Setting, Outside, absent_of, both_of, many_both, until_both, tail_of, rule_good}
+use Rattle.lv_viable.proofs.Good.{Setting, Outside, absent_of, both_of, tail_of, rule_good}
 
 -- ---- where reading begins
 

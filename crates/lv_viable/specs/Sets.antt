@@ -1,6 +1,7 @@
 -- Which tokens may begin a tree, which may go on behind a whole one, and when a grammar can be read by its next token alone.
-use Rattle.std.specs.Prelude.{List, [], ◌∷◌, ◌++◌, Bool, true, false, ◌&&◌, ◌||◌, not, if◌then◌else◌}
+use Rattle.std.specs.Prelude.{ℕ, zero, suc, List, [], ◌∷◌, ◌++◌, Bool, true, false, ◌&&◌, ◌||◌, not, if◌then◌else◌}
 use Rattle.lv_viable.specs.Grammar.{Base, Gram, none, one, leaf, call, act, both, either, perhaps, many, until, tail}
+use Rattle.lv_viable.specs.Spelling.{Rules}
 
 -- the tokens of one of these shapes, or of none of them
 pub data Set (P : Type 0) : Type 0 where
@@ -116,3 +117,25 @@ is_good b t (tail r p h) = is_good b t h && not (may_be_empty b h) && b.same p t
 -- a rule is as the table says of it
 abbrev pub rule_fits : (b : Base) → Table b → {A : Type 0} → b.Rule → Gram b A → Bool
 rule_fits b t r g = is_good b t g && not (may_be_empty b g) && within b (first b t g) (t.rule_first r) && within b (next b t g) (t.rule_next r) && apart b (t.rule_next r) (these (t.tail_mark ∷ []))
+
+-- shapes that begin trees, from those that begin the rules'
+abbrev pub shapes_in : (b : Base) → (b.Rule → List b.Shape) → {A : Type 0} → Gram b A → List b.Shape
+shapes_in b c none = []
+shapes_in b c (one p) = p ∷ []
+shapes_in b c (leaf k) = []
+shapes_in b c (call r) = c r
+shapes_in b c (act f g) = shapes_in b c g
+shapes_in b c (both g h) = shapes_in b c g ++ (if may_be_empty b g then shapes_in b c h else [])
+shapes_in b c (either g h) = shapes_in b c g ++ shapes_in b c h
+shapes_in b c (perhaps g) = shapes_in b c g
+shapes_in b c (many g) = shapes_in b c g
+shapes_in b c (until g h) = shapes_in b c g ++ shapes_in b c h
+shapes_in b c (tail r p h) = c r
+
+-- the same of rules, n deep
+abbrev pub rule_shapes : (b : Base) → Rules b → ℕ → b.Rule → List b.Shape
+rule_shapes b g zero r = []
+rule_shapes b g (suc n) r = shapes_in b (rule_shapes b g n) (g r)
+
+abbrev pub shapes : (b : Base) → Rules b → ℕ → {A : Type 0} → Gram b A → List b.Shape
+shapes b g n h = shapes_in b (rule_shapes b g n) h

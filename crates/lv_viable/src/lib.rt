@@ -2,14 +2,15 @@
 //! can be read by their next token alone. Each function below does nothing: its contract is the law.
 #![tactic(auto)]
 
-ghost use Rattle.std.specs.Prelude.{◌≡◌, ◌↔◌, List, Bool, true, false};
-ghost use Rattle.lv_viable.specs.Grammar.{Base, Gram, none};
+ghost use Rattle.std.specs.Prelude.{◌≡◌, ◌↔◌, ℕ, List, [], ◌∷◌, ◌++◌, Bool, true, false};
+ghost use Rattle.lv_viable.specs.Grammar.{Base, Gram, left, right, call, both, either, perhaps, many, until, tail};
 ghost use Rattle.lv_viable.specs.Spelling.{Language, IsSpelled, called, allows, inner};
-ghost use Rattle.lv_viable.specs.Sets.{Table, Set, is_in, union, apart, within, is_good};
-ghost use Rattle.lv_viable.specs.Reading.{Reads, Fails, PassesLimit};
+ghost use Rattle.lv_viable.specs.Sets.{Table, Set, is_in, among, union, apart, within, first, is_good, shapes};
+ghost use Rattle.lv_viable.specs.Reading.{Begins, Reads, Fails, PassesLimit};
+ghost use Rattle.lv_viable.specs.At.{At, Standing, StandingUntil};
 ghost use Rattle.lv_viable.specs.Facts.{IsBase, IsLanguage, IsWithin, Facts};
 
-/// A type of trees with a grammar of them: over the rules of a language without limits, and over those of one within limits.
+/// A type of trees with two grammars of them: over the rules of a language without limits, and over those of one within limits.
 pub trait Spelled {
     ghost base: { Base };
 
@@ -22,6 +23,8 @@ pub trait Spelled {
     ghost limited: { IsWithin base low all };
 
     ghost grammar: { Gram base Self };
+
+    ghost other: { Gram base Self };
 }
 
 /// What is computed of sets of shapes is right of the tokens in them.
@@ -63,7 +66,69 @@ pub fn one_answer<X: Spelled>()
     ensures passing { (ts us rest : List X.base.Token) (x : X) → Reads X.base X.all X.low X.grammar ts x us → PassesLimit X.base X.all X.low X.grammar ts rest → ⊥ }
 {}
 
-/// Nothing is always read.
-pub fn nothing_is_read<X: Spelled>()
-    ensures { (ts : List X.base.Token) → Reads X.base X.all X.all none ts tt ts }
+/// What is answered of two grammars, one after the other, from the answers of each.
+pub fn parts_are_read_in_turn<X: Spelled>()
+    ensures behind { IsBase X.base → IsLanguage X.base X.table X.all → is_good X.base X.table (both X.grammar X.other) ≡ true →
+        (ts us : List X.base.Token) (x : X) → Reads X.base X.all X.low X.grammar ts x us →
+        At X.base X.all X.low (both X.grammar X.other) ts X.low X.other us (λ y. (x, y)) }
+    ensures fails { IsBase X.base → IsLanguage X.base X.table X.all → is_good X.base X.table (both X.grammar X.other) ≡ true →
+        (ts rest : List X.base.Token) → Fails X.base X.all X.grammar ts rest → Fails X.base X.all (both X.grammar X.other) ts rest }
+    ensures passes { IsBase X.base → IsLanguage X.base X.table X.all → is_good X.base X.table (both X.grammar X.other) ≡ true →
+        (ts rest : List X.base.Token) → PassesLimit X.base X.all X.low X.grammar ts rest → PassesLimit X.base X.all X.low (both X.grammar X.other) ts rest }
+{}
+
+/// Of a choice that answers are the one's for which the next token speaks, and a grammar that may be left out is left out or read.
+pub fn choices_are_by_the_next_token<X: Spelled>()
+    ensures left { IsBase X.base → IsLanguage X.base X.table X.all → is_good X.base X.table (either X.grammar X.other) ≡ true →
+        (ts : List X.base.Token) → ((m : X.base.Token) (us : List X.base.Token) → ts ≡ m ∷ us → is_in X.base (first X.base X.table X.other) m ≡ false) →
+        At X.base X.all X.low (either X.grammar X.other) ts X.low X.grammar ts left }
+    ensures right { IsBase X.base → IsLanguage X.base X.table X.all → is_good X.base X.table (either X.grammar X.other) ≡ true →
+        (ts : List X.base.Token) → ((m : X.base.Token) (us : List X.base.Token) → ts ≡ m ∷ us → is_in X.base (first X.base X.table X.grammar) m ≡ false) →
+        At X.base X.all X.low (either X.grammar X.other) ts X.low X.other ts right }
+    ensures given { (m : X.base.Token) (us : List X.base.Token) → Begins X.base X.all X.grammar (m ∷ []) →
+        At X.base X.all X.low (perhaps X.grammar) (m ∷ us) X.low X.grammar (m ∷ us) Some }
+    ensures left_out { IsBase X.base → IsLanguage X.base X.table X.all → is_good X.base X.table (perhaps X.grammar) ≡ true →
+        (ts : List X.base.Token) → ((m : X.base.Token) (us : List X.base.Token) → ts ≡ m ∷ us → is_in X.base (first X.base X.table X.grammar) m ≡ false) →
+        Reads X.base X.all X.low (perhaps X.grammar) ts None ts }
+{}
+
+/// Any number of trees: what each further one adds, and where they end.
+pub fn repetitions_are_read_one_by_one<X: Spelled>()
+    ensures further { IsBase X.base → IsLanguage X.base X.table X.all → is_good X.base X.table (many X.grammar) ≡ true →
+        (ts us vs : List X.base.Token) (xs : List X) (x : X) → Standing X.base X.all X.low X.grammar ts us xs →
+        (m : X.base.Token) (ws : List X.base.Token) → us ≡ m ∷ ws → Begins X.base X.all X.grammar (m ∷ []) →
+        Reads X.base X.all X.low X.grammar us x vs → Standing X.base X.all X.low X.grammar ts vs (xs ++ (x ∷ [])) }
+    ensures done { IsBase X.base → IsLanguage X.base X.table X.all → is_good X.base X.table (many X.grammar) ≡ true →
+        (ts us : List X.base.Token) (xs : List X) → Standing X.base X.all X.low X.grammar ts us xs →
+        ((m : X.base.Token) (ws : List X.base.Token) → us ≡ m ∷ ws → is_in X.base (first X.base X.table X.grammar) m ≡ false) →
+        Reads X.base X.all X.low (many X.grammar) ts xs us }
+    ensures further_until { IsBase X.base → IsLanguage X.base X.table X.all → is_good X.base X.table (until X.grammar X.other) ≡ true →
+        (ts us vs : List X.base.Token) (xs : List X) (x : X) → StandingUntil X.base X.all X.low X.grammar X.other ts us xs →
+        ((m : X.base.Token) (ws : List X.base.Token) → us ≡ m ∷ ws → is_in X.base (first X.base X.table X.other) m ≡ false) →
+        Reads X.base X.all X.low X.grammar us x vs → StandingUntil X.base X.all X.low X.grammar X.other ts vs (xs ++ (x ∷ [])) }
+    ensures ended { IsBase X.base → IsLanguage X.base X.table X.all → is_good X.base X.table (until X.grammar X.other) ≡ true →
+        (ts us : List X.base.Token) (xs : List X) → StandingUntil X.base X.all X.low X.grammar X.other ts us xs →
+        ((m : X.base.Token) (ws : List X.base.Token) → us ≡ m ∷ ws → is_in X.base (first X.base X.table X.grammar) m ≡ false) →
+        At X.base X.all X.low (until X.grammar X.other) ts X.low X.other us (λ y. (xs, y)) }
+{}
+
+/// A rule is read as its grammar where the limits allow it, and with a tail where its mark is next.
+pub fn rules_are_read_within_limits<X: Spelled>()
+    ensures allowed { (r : X.base.Rule) (ts : List X.base.Token) → allows (X.low.limits (X.base.count r)) ≡ true →
+        At X.base X.all X.low (call r) ts (inner X.base X.low r) (X.low.rules r) ts (λ x. x) }
+    ensures barred { (r : X.base.Rule) (m : X.base.Token) (us : List X.base.Token) → allows (X.low.limits (X.base.count r)) ≡ false →
+        Begins X.base X.all (call r) (m ∷ []) → PassesLimit X.base X.all X.low (call r) (m ∷ us) (m ∷ us) }
+    ensures tailed { IsBase X.base → IsLanguage X.base X.table X.all → (r : X.base.Rule) (p : X.base.Shape) → is_good X.base X.table (tail r p X.other) ≡ true →
+        (ts us : List X.base.Token) (m : X.base.Token) (x : X.base.RuleTree r) → Reads X.base X.all X.low (call r) ts x (m ∷ us) → X.base.fits p m ≡ true →
+        At X.base X.all X.low (tail r p X.other) ts X.low X.other us (λ y. (x, Some y)) }
+    ensures without { IsBase X.base → IsLanguage X.base X.table X.all → (r : X.base.Rule) (p : X.base.Shape) → is_good X.base X.table (tail r p X.other) ≡ true →
+        (ts us : List X.base.Token) (x : X.base.RuleTree r) → Reads X.base X.all X.low (call r) ts x us →
+        ((m : X.base.Token) (vs : List X.base.Token) → us ≡ m ∷ vs → X.base.fits p m ≡ false) →
+        Reads X.base X.all X.low (tail r p X.other) ts (x, None) us }
+{}
+
+/// Trees of a grammar begin with each token of which that is computed, as many rules deep as one looks.
+pub fn computed_tokens_begin_trees<X: Spelled>()
+    ensures { IsBase X.base → IsLanguage X.base X.table X.all → (n : ℕ) (p : X.base.Shape) (m : X.base.Token) →
+        among X.base (shapes X.base X.all.rules n X.grammar) p ≡ true → X.base.fits p m ≡ true → Begins X.base X.all X.grammar (m ∷ []) }
 {}

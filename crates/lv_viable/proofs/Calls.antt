@@ -72,7 +72,7 @@ pub level_grows : (b : Base) (l : Leaves b) (g : Rules b) (n k : ℕ) (d : ℕ �
 level_grows b l g n k d e = level_below b l l g (same_leaves b l) n k d e
 
 -- without limits there are as many trees as under any
-inside_free : (k : ℕ) (d : ℕ → Limit) → ((j : ℕ) → d j ≡ any) → (j : ℕ) → inside k d j ≡ any
+pub inside_free : (k : ℕ) (d : ℕ → Limit) → ((j : ℕ) → d j ≡ any) → (j : ℕ) → inside k d j ≡ any
 inside_free k d f j = go (j == k)
   where
     go : (c : Bool) → (if c then lowered (d j) else d j) ≡ any

@@ -2,10 +2,11 @@
 use Rattle.std.proofs.Common.{◌≡◌, List, [], ◌∷◌, Bool, false, Option, Some, None, refl}
 use Rattle.lv_viable.specs.Grammar.{Base, Gram, OneOf, left, right, either, perhaps}
 use Rattle.lv_viable.specs.Spelling.{Language, IsSpelled}
+use Rattle.lv_viable.specs.Nexts.{Opens}
 use Rattle.lv_viable.specs.Reading.{Begins, Reads}
 use Rattle.lv_viable.specs.At.{At}
 use Rattle.lv_viable.proofs.Lists.{nil_cons}
-use Rattle.lv_viable.proofs.Readers.{Spelled, Absent, Opens, at_case, begun}
+use Rattle.lv_viable.proofs.Readers.{Spelled, Absent, at_case, begun}
 
 -- a choice is the one where it isn't the other
 first_one : (b : Base) (l : Language b) {A B : Type 0} (g : Gram b A) (h : Gram b B) (ts : List b.Token) → (Spelled b l h ts → ⊥) → Spelled b l (either g h) ts → Spelled b l g ts

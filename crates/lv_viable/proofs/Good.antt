@@ -2,7 +2,8 @@
 use Rattle.std.proofs.Common.{◌≡◌, ℕ, List, [], ◌∷◌, ◌++◌, Bool, true, false, ◌&&◌, not, refl, ap, sym, subst, ◌∙◌, inl, inr}
 use Rattle.lv_viable.specs.Grammar.{Base, Gram, call, both, many, until, tail}
 use Rattle.lv_viable.specs.Spelling.{allows, Rules, Language, inner}
-use Rattle.lv_viable.specs.Sets.{among, shapes, these, Table, is_in, apart, may_be_empty, first, next, is_good}
+use Rattle.lv_viable.specs.Sets.{some_of, among, shapes, these, Table, is_in, apart, may_be_empty, first, next, is_good}
+use Rattle.lv_viable.specs.Nexts.{Next, LacksAll, lacks_none, lacks_also, Lacks, Opens, Outside}
 use Rattle.lv_viable.specs.Reading.{Fails, PassesLimit}
 use Rattle.lv_viable.specs.Facts.{IsBase, IsLanguage, IsWithin, Facts}
 use Rattle.lv_viable.proofs.Lists.{true_false, of_not, not_or, same_head, nil_cons}
@@ -10,12 +11,12 @@ use Rattle.lv_viable.proofs.SetLaws.{apart_is, of_one}
 use Rattle.lv_viable.proofs.Calls.{is_within, inner_within}
 use Rattle.lv_viable.proofs.Grammars.{four_true, five_true, nine_true}
 use Rattle.lv_viable.proofs.FactsOf.{facts_of}
-use Rattle.lv_viable.proofs.Readers.{Lacks, Spelled, Absent, Opens, absent_fails}
+use Rattle.lv_viable.proofs.Readers.{Spelled, Absent, absent_fails}
 use Rattle.lv_viable.proofs.Pairs.{Both}
 use Rattle.lv_viable.proofs.Repeats.{Turn, turn, last, more}
 use Rattle.lv_viable.proofs.Tails.{Tail}
 use Rattle.lv_viable.proofs.Rules.{call_high}
-use Rattle.lv_viable.proofs.Opening.{opens_of, tree}
+use Rattle.lv_viable.proofs.Opening.{opens_with, tree}
 
 -- a language without limits that is as its table says, and the same within limits
 pub record Setting (b : Base) (t : Table b) (all low : Language b) : Type 1 where
@@ -26,15 +27,19 @@ pub record Setting (b : Base) (t : Table b) (all low : Language b) : Type 1 wher
 pub inner_setting : {b : Base} {t : Table b} {all low : Language b} (r : b.Rule) → Setting b t all low → Setting b t all (inner b low r)
 inner_setting {b} {t} {all} {low} r s = record { base = s.base; language = s.language; within = inner_within b low all r s.within }
 
--- no next token is among those that begin trees
-pub record Outside (b : Base) (t : Table b) {A : Type 0} (g : Gram b A) (ts : List b.Token) : Type 0 where
-  pub out : (m : b.Token) (us : List b.Token) → ts ≡ m ∷ us → is_in b (first b t g) m ≡ false
-
 pub outside_nothing : {b : Base} {t : Table b} {A : Type 0} {g : Gram b A} → Outside b t g []
 outside_nothing = record { out = λ m us e. absurd (nil_cons m us (sym e)) }
 
 pub outside_token : {b : Base} {t : Table b} {A : Type 0} {g : Gram b A} {m : b.Token} {us : List b.Token} → is_in b (first b t g) m ≡ false → Outside b t g (m ∷ us)
 outside_token {b} {t} {g = g} {m = m} {us = us} f = record { out = λ n vs e. subst (λ (v : b.Token). is_in b (first b t g) v ≡ false) (same_head m n us vs e) f }
+
+none_in : (b : Base) (ps : List b.Shape) (ts : List b.Token) → LacksAll b ts ps → (m : b.Token) (us : List b.Token) → ts ≡ m ∷ us → some_of (λ p. b.fits p m) ps ≡ false
+none_in b [] ts lacks_none m us e = refl
+none_in b (p ∷ ps) ts (lacks_also f k) m us e = not_or (b.fits p m) (some_of (λ p. b.fits p m) ps) (f.out m us e) (none_in b ps ts k m us e)
+
+-- of grammars that begin with a token of these shapes
+pub outside_these : {b : Base} {t : Table b} {A : Type 0} {g : Gram b A} {ts : List b.Token} {ps : List b.Shape} → first b t g ≡ these ps → LacksAll b ts ps → Outside b t g ts
+outside_these {b} {ts = ts} {ps = ps} q f = record { out = λ m us e. ap (λ v. is_in b v m) q ∙ none_in b ps ts f m us e }
 
 -- of grammars that begin with a token of one shape alone
 pub outside_one : {b : Base} {t : Table b} {A : Type 0} {g : Gram b A} {ts : List b.Token} {p : b.Shape} → first b t g ≡ these (p ∷ []) → Lacks b p ts → Outside b t g ts
@@ -54,6 +59,14 @@ module _ {b : Base} {t : Table b} {all low : Language b} (s : Setting b t all lo
     within = up g;
   }
 
+  -- the next token is of a shape that begins no tree
+  pub outside_next : {A : Type 0} {g : Gram b A} {p : b.Shape} {ts us : List b.Token} {m : b.Token} → apart b (these (p ∷ [])) (first b t g) ≡ true → Next b p ts m us → Outside b t g ts
+  outside_next {g = g} {p = p} {ts = ts} {us = us} {m = m} z n = record { out = λ k vs e. go (is_in b (first b t g) k) refl (same_head m k us vs (sym n.cut ∙ e)) }
+    where
+      go : {k : b.Token} (v : Bool) → is_in b (first b t g) k ≡ v → m ≡ k → is_in b (first b t g) k ≡ false
+      go false q e = q
+      go {k} true q e = absurd (apart_is b s.base (these (p ∷ [])) (first b t g) m z (of_one b p m n.fits) (subst (λ v. is_in b (first b t g) v ≡ true) (sym e) q))
+
   -- where no tree begins with the next token nothing is read
   pub fails_outside : {A : Type 0} {g : Gram b A} {ts : List b.Token} → is_good b t g ≡ true → may_be_empty b g ≡ false → Outside b t g ts → Fails b all g ts ts
   fails_outside z e f = absent_fails (absent_of z e f)
@@ -65,9 +78,9 @@ module _ {b : Base} {t : Table b} {all low : Language b} (s : Setting b t all lo
   pub call_passes : (r : b.Rule) {ts : List b.Token} → allows (low.limits (b.count r)) ≡ false → Opens b all (call r) ts → PassesLimit b all low (call r) ts ts
   call_passes r {ts} a o = call_high s.within r ts a o
 
-  -- a token of a shape of which it is computed, n rules deep, that trees begin with it
-  pub opens : (n : ℕ) (p : b.Shape) {A : Type 0} {g : Gram b A} {m : b.Token} {us : List b.Token} → among b (shapes b all.rules n g) p ≡ true → b.fits p m ≡ true → Opens b all g (m ∷ us)
-  opens n p {m = m} {us = us} e f = opens_of b t all s.base s.language n p m us e f
+  -- the next token is of a shape of which it is computed, n rules deep, that trees begin with it
+  pub opens : (n : ℕ) {p : b.Shape} {A : Type 0} {g : Gram b A} {ts us : List b.Token} {m : b.Token} → among b (shapes b all.rules n g) p ≡ true → Next b p ts m us → Opens b all g ts
+  opens n {p} {us = us} {m = m} e f = record { token = m; others = us; cut = f.cut; alive = opens_with b t all s.base s.language n p m e f.fits }
 
   pub call_absent : {r : b.Rule} {ts : List b.Token} → Outside b t (call r) ts → Absent b all low (call r) ts
   call_absent f = absent_of refl refl f

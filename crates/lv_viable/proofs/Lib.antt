@@ -18,3 +18,4 @@ pub mod Good
 pub mod Ways
 pub mod Rounds
 pub mod OneAnswer
+pub mod Witness

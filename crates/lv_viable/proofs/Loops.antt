@@ -2,9 +2,10 @@
 use Rattle.std.proofs.Common.{List, [], ◌∷◌, ◌++◌, ap, sym, subst, append_assoc, append-nil}
 use Rattle.lv_viable.specs.Grammar.{Base, Gram, many, until}
 use Rattle.lv_viable.specs.Spelling.{Language}
+use Rattle.lv_viable.specs.Nexts.{Opens}
 use Rattle.lv_viable.specs.Reading.{Reads, Fails, PassesLimit}
 use Rattle.lv_viable.specs.At.{At, Standing, StandingUntil}
-use Rattle.lv_viable.proofs.Readers.{Absent, Opens}
+use Rattle.lv_viable.proofs.Readers.{Absent}
 use Rattle.lv_viable.proofs.Pairs.{Both}
 use Rattle.lv_viable.proofs.Straight.{start, onward, rebuilt, step, stops, is_high}
 use Rattle.lv_viable.proofs.Repeats.{many_more, many_none, until_more, until_end}

@@ -9,7 +9,7 @@ use Rattle.lv_viable.proofs.Lists.{true_false, and_left, and_right, or_cases}
 use Rattle.lv_viable.proofs.Calls.{free_is_called}
 use Rattle.lv_viable.proofs.Known.{HasTree}
 use Rattle.lv_viable.proofs.Grammars.{tree_of}
-use Rattle.lv_viable.proofs.Readers.{Spelled, Opens, begun, one_opens}
+use Rattle.lv_viable.proofs.Readers.{Spelled, begun, one_opens}
 use Rattle.lv_viable.proofs.Pairs.{join, begins_left, begins_right}
 use Rattle.lv_viable.proofs.Repeats.{alone, begins_more}
 
@@ -81,6 +81,3 @@ module _ (b : Base) (t : Table b) (l : Language b) (i : IsBase b) (a : IsLanguag
   -- a token of a shape that begins trees, n rules deep
   pub opens_with : (n : ℕ) (p : b.Shape) {A : Type 0} {g : Gram b A} (m : b.Token) → among b (shapes b l.rules n g) p ≡ true → b.fits p m ≡ true → Begins b l g (m ∷ [])
   opens_with n p {g = g} m e f = opens_in (rule_shapes b l.rules n) p m f (opens_rule p m f n) g e
-
-  pub opens_of : (n : ℕ) (p : b.Shape) {A : Type 0} {g : Gram b A} (m : b.Token) (us : List b.Token) → among b (shapes b l.rules n g) p ≡ true → b.fits p m ≡ true → Opens b l g (m ∷ us)
-  opens_of n p m us e f = record { token = m; others = us; cut = refl; alive = opens_with n p m e f }

@@ -2,6 +2,7 @@
 use Rattle.std.proofs.Common.{◌≡◌, List, [], ◌∷◌, ◌++◌, Bool, true, false, refl, ap, sym, subst, ◌∙◌}
 use Rattle.lv_viable.specs.Grammar.{Base, Gram, none, one, act}
 use Rattle.lv_viable.specs.Spelling.{Language, IsSpelled}
+use Rattle.lv_viable.specs.Nexts.{Next, Lacks}
 use Rattle.lv_viable.specs.Reading.{Begins, Reads, Fails}
 use Rattle.lv_viable.specs.At.{At}
 use Rattle.lv_viable.proofs.Lists.{nil_cons, same_head, true_false}
@@ -22,22 +23,11 @@ pub record Absent (b : Base) (all low : Language b) {A : Type 0} (g : Gram b A) 
   pub some : Spelled b all g [] → ⊥
   pub within : (us : List b.Token) → Spelled b low g us → Spelled b all g us
 
--- the next token, if there is one, is not of this shape
-pub record Lacks (b : Base) (p : b.Shape) (ts : List b.Token) : Type 0 where
-  pub out : (m : b.Token) (us : List b.Token) → ts ≡ m ∷ us → b.fits p m ≡ false
-
 pub lacks_nothing : {b : Base} {p : b.Shape} → Lacks b p []
 lacks_nothing = record { out = λ m us e. absurd (nil_cons m us (sym e)) }
 
 pub lacks_token : {b : Base} {p : b.Shape} {m : b.Token} {us : List b.Token} → b.fits p m ≡ false → Lacks b p (m ∷ us)
 lacks_token {b} {p} {m} {us} f = record { out = λ n vs e. subst (λ (v : b.Token). b.fits p v ≡ false) (same_head m n us vs e) f }
-
--- some tree begins with the next token
-pub record Opens (b : Base) (l : Language b) {A : Type 0} (g : Gram b A) (ts : List b.Token) : Type 0 where
-  pub token : b.Token
-  pub others : List b.Token
-  pub cut : ts ≡ token ∷ others
-  pub alive : Begins b l g (token ∷ [])
 
 -- where no tree begins with the next token, or there is none, nothing is read there
 pub absent_fails : {b : Base} {all low : Language b} {A : Type 0} {g : Gram b A} {ts : List b.Token} → Absent b all low g ts → Fails b all g ts ts
@@ -76,6 +66,15 @@ one_reads {b} {all} {low} p t us f = record {
   where
     longer : (m : b.Token) (ms : List b.Token) (x : b.Token) → t ∷ (m ∷ ms) ≡ x ∷ [] → ⊥
     longer m ms x e = cc
+
+pub next_here : {b : Base} {p : b.Shape} {m : b.Token} {us : List b.Token} → b.fits p m ≡ true → Next b p (m ∷ us) m us
+next_here f = record { cut = refl; fits = f }
+
+pub next_read : {b : Base} {all low : Language b} {p : b.Shape} {ts : List b.Token} {m : b.Token} {us : List b.Token} → Next b p ts m us → Reads b all low (one p) ts m us
+next_read {b} {all} {low} {p} {ts} {m} {us} n = subst (λ v. Reads b all low (one p) v m us) (sym n.cut) (one_reads p m us n.fits)
+
+pub read_next : {b : Base} {all low : Language b} {p : b.Shape} {ts : List b.Token} {m : b.Token} {us : List b.Token} → Reads b all low (one p) ts m us → Next b p ts m us
+read_next {us = us} r = record { cut = r.cut ∙ ap (λ v. v ++ us) r.spelled.0; fits = r.spelled.1 }
 
 pub one_absent : {b : Base} {all low : Language b} {p : b.Shape} {ts : List b.Token} → Lacks b p ts → Absent b all low (one p) ts
 one_absent {b} {all} {low} {p} {ts} f = record {

@@ -2,10 +2,11 @@
 use Rattle.std.proofs.Common.{◌≡◌, List, [], ◌∷◌, ◌++◌, Bool, false, refl, ap, sym, subst, ◌∙◌, append_assoc, append-nil}
 use Rattle.lv_viable.specs.Grammar.{Base, Gram, both, many, until}
 use Rattle.lv_viable.specs.Spelling.{Language, IsSpelled, SpellsAll, last_open}
+use Rattle.lv_viable.specs.Nexts.{Opens}
 use Rattle.lv_viable.specs.Reading.{Begins, Reads}
 use Rattle.lv_viable.specs.At.{At}
 use Rattle.lv_viable.proofs.Lists.{nil_cons}
-use Rattle.lv_viable.proofs.Readers.{Spelled, Absent, Opens, at_case, begun}
+use Rattle.lv_viable.proofs.Readers.{Spelled, Absent, at_case, begun}
 
 -- ---- any number
 

@@ -3,13 +3,13 @@ use Rattle.std.proofs.Common.{◌≡◌, List, [], ◌∷◌, ◌++◌, true, fa
 use Rattle.lv_viable.specs.Grammar.{Base, Gram, many, until}
 use Rattle.lv_viable.specs.Spelling.{Language}
 use Rattle.lv_viable.specs.Sets.{Table, these, apart, may_be_empty, first, next, is_good}
+use Rattle.lv_viable.specs.Nexts.{Opens, Outside}
 use Rattle.lv_viable.specs.Reading.{Reads, Fails, PassesLimit}
 use Rattle.lv_viable.specs.At.{Way, Standing, StandingUntil}
 use Rattle.lv_viable.proofs.Lists.{of_not}
 use Rattle.lv_viable.proofs.Grammars.{four_true, nine_true}
-use Rattle.lv_viable.proofs.Readers.{Opens}
 use Rattle.lv_viable.proofs.Loops.{stand_more, stand_fails, stand_high, stand_done, until_next, until_fails, until_high, until_done}
-use Rattle.lv_viable.proofs.Good.{Setting, Outside, absent_of, many_both, until_both}
+use Rattle.lv_viable.proofs.Good.{Setting, absent_of, many_both, until_both}
 
 -- ---- any number
 

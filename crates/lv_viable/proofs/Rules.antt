@@ -2,12 +2,13 @@
 use Rattle.std.proofs.Common.{◌≡◌, List, [], ◌∷◌, ◌++◌, true, false, sym, subst}
 use Rattle.lv_viable.specs.Grammar.{Base, call}
 use Rattle.lv_viable.specs.Spelling.{Rules, Language, IsSpelled, allows, inner}
+use Rattle.lv_viable.specs.Nexts.{Opens}
 use Rattle.lv_viable.specs.Reading.{PassesLimit}
 use Rattle.lv_viable.specs.Facts.{IsWithin}
 use Rattle.lv_viable.specs.At.{At}
 use Rattle.lv_viable.proofs.Lists.{true_false}
 use Rattle.lv_viable.proofs.Calls.{called_is, is_called, free_called_is, free_is_called}
-use Rattle.lv_viable.proofs.Readers.{Spelled, Opens, at_case}
+use Rattle.lv_viable.proofs.Readers.{Spelled, at_case}
 
 module _ {b : Base} {all low : Language b} (w : IsWithin b low all) (r : b.Rule) where
   -- a rule is its grammar, without limits

@@ -2,10 +2,11 @@
 use Rattle.std.proofs.Common.{◌≡◌, List, [], ◌∷◌, ◌++◌, Bool, true, false, Option, Some, None, refl, ap, sym, subst, ◌∙◌, append_assoc}
 use Rattle.lv_viable.specs.Grammar.{Base, Gram, call, tail}
 use Rattle.lv_viable.specs.Spelling.{Language, IsSpelled}
+use Rattle.lv_viable.specs.Nexts.{Next, Lacks}
 use Rattle.lv_viable.specs.Reading.{Begins, Reads, Fails, PassesLimit}
 use Rattle.lv_viable.specs.At.{At}
 use Rattle.lv_viable.proofs.Lists.{Cuts, cuts, longer, same, shorter, true_false}
-use Rattle.lv_viable.proofs.Readers.{Lacks, Spelled, begun}
+use Rattle.lv_viable.proofs.Readers.{Spelled, begun}
 use Rattle.lv_viable.proofs.Pairs.{past, whole}
 
 -- A rule whose open trees go on with the token before a tail, and whose other trees don't.
@@ -128,6 +129,9 @@ module _ (b : Base) (all low : Language b) {B : Type 0} (r : b.Rule) (p : b.Shap
             ends = λ s ws c v. w.ends s ws c (subst (λ (u : List b.Token). Begins b all (tail r p h) u) (sym (append_assoc us' (n ∷ vs') (s ∷ [])) ∙ ap (λ u. u ++ (s ∷ [])) (sym e))
                 (with_tail b all r p h us' n (vs' ++ (s ∷ [])) x' d g v));
           })
+
+  pub behind_next : (ts us vs : List b.Token) (m : b.Token) (x : b.RuleTree r) → Reads b all low (call r) ts x us → Next b p us m vs → At b all low (tail r p h) ts low h vs (λ y. (x, Some y))
+  behind_next ts us vs m x q n = behind ts vs m x (subst (λ w. Reads b all low (call r) ts x w) n.cut q) n.fits
 
   -- the rule's tree is read, and no tail begins
   pub without : (ts us : List b.Token) (x : b.RuleTree r) → Reads b all low (call r) ts x us → Lacks b p us → Reads b all low (tail r p h) ts (x, None) us

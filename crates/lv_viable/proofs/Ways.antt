@@ -3,16 +3,17 @@ use Rattle.std.proofs.Common.{◌≡◌, List, [], ◌∷◌, true, false, not, 
 use Rattle.lv_viable.specs.Grammar.{Base, Gram, OneOf, left, right, one, call, act, both, either, perhaps, tail}
 use Rattle.lv_viable.specs.Spelling.{Language, allows, inner}
 use Rattle.lv_viable.specs.Sets.{Table, these, apart, may_be_empty, first, next, is_good}
+use Rattle.lv_viable.specs.Nexts.{Next, Lacks, Opens, Outside}
 use Rattle.lv_viable.specs.Reading.{Reads, Fails, PassesLimit}
 use Rattle.lv_viable.specs.At.{Way}
 use Rattle.lv_viable.proofs.Lists.{and_left, and_right, of_not}
 use Rattle.lv_viable.proofs.Grammars.{four_true, five_true}
-use Rattle.lv_viable.proofs.Readers.{Lacks, Opens, one_reads, one_fails}
+use Rattle.lv_viable.proofs.Readers.{next_read, one_fails}
 use Rattle.lv_viable.proofs.Straight.{start, onward, step, stops, is_high, seen}
 use Rattle.lv_viable.proofs.Choices.{left_at, right_at, perhaps_at, perhaps_none}
 use Rattle.lv_viable.proofs.Tails
 use Rattle.lv_viable.proofs.Rules.{call_at}
-use Rattle.lv_viable.proofs.Good.{Setting, Outside, absent_of, both_of, tail_of, rule_good}
+use Rattle.lv_viable.proofs.Good.{Setting, absent_of, both_of, tail_of, rule_good}
 
 -- ---- where reading begins
 
@@ -52,9 +53,9 @@ pub part : {b : Base} {t : Table b} {all low inner : Language b} {A B C : Type 0
 part {b} {t} {p = p} {h = h} {us = us} w = record { at = start p us; good = (both_good b t p h w.good).0 }
 
 -- the next token is of the shape
-pub then_one : {b : Base} {t : Table b} {all low inner : Language b} {A C : Type 0} {g : Gram b A} {p : b.Shape} {h : Gram b C} {ts : List b.Token} {m : b.Token} {us : List b.Token} {build : b.Token × C → A} →
-    Setting b t all inner → Way b t all low g ts inner (both (one p) h) (m ∷ us) build → b.fits p m ≡ true → Way b t all low g ts inner h us (λ y. build (m, y))
-then_one {p = p} {m = m} {us = us} s w f = then s w (one_reads p m us f)
+pub then_one : {b : Base} {t : Table b} {all low inner : Language b} {A C : Type 0} {g : Gram b A} {p : b.Shape} {h : Gram b C} {ts us vs : List b.Token} {m : b.Token} {build : b.Token × C → A} →
+    Setting b t all inner → Way b t all low g ts inner (both (one p) h) us build → Next b p us m vs → Way b t all low g ts inner h vs (λ y. build (m, y))
+then_one s w n = then s w (next_read n)
 
 -- it is not
 pub stop_one : {b : Base} {t : Table b} {all low inner : Language b} {A C : Type 0} {g : Gram b A} {p : b.Shape} {h : Gram b C} {ts us : List b.Token} {build : b.Token × C → A} →
@@ -62,9 +63,9 @@ pub stop_one : {b : Base} {t : Table b} {all low inner : Language b} {A C : Type
 stop_one s w f = stop s w (one_fails f)
 
 -- the last part
-pub last_one : {b : Base} {t : Table b} {all low inner : Language b} {A : Type 0} {g : Gram b A} {p : b.Shape} {ts : List b.Token} {m : b.Token} {us : List b.Token} {build : b.Token → A} →
-    Way b t all low g ts inner (one p) (m ∷ us) build → b.fits p m ≡ true → Reads b all low g ts (build m) us
-last_one {p = p} {m = m} {us = us} w f = w.at.reads m us (one_reads p m us f)
+pub last_one : {b : Base} {t : Table b} {all low inner : Language b} {A : Type 0} {g : Gram b A} {p : b.Shape} {ts us vs : List b.Token} {m : b.Token} {build : b.Token → A} →
+    Way b t all low g ts inner (one p) us build → Next b p us m vs → Reads b all low g ts (build m) vs
+last_one {vs = vs} {m = m} w n = w.at.reads m vs (next_read n)
 
 pub last_not : {b : Base} {t : Table b} {all low inner : Language b} {A : Type 0} {g : Gram b A} {p : b.Shape} {ts us : List b.Token} {build : b.Token → A} →
     Way b t all low g ts inner (one p) us build → Lacks b p us → Fails b all g ts us
@@ -121,10 +122,10 @@ to_none {b} {t} {h = h} {us = us} s w f = w.at.reads None us
 
 -- ---- a rule's tree and perhaps a tail
 
-pub to_tail : {b : Base} {t : Table b} {all low inner : Language b} {A B : Type 0} {g : Gram b A} {r : b.Rule} {p : b.Shape} {h : Gram b B} {ts us : List b.Token} {m : b.Token} {vs : List b.Token} {build : b.RuleTree r × Option B → A} {x : b.RuleTree r} →
-    Setting b t all inner → Way b t all low g ts inner (tail r p h) us build → Reads b all inner (call r) us x (m ∷ vs) → b.fits p m ≡ true → Way b t all low g ts inner h vs (λ y. build (x, Some y))
-to_tail {b} {t} {all} {inner = inner} {r = r} {p = p} {h = h} {us = us} {m = m} {vs = vs} {x = x} s w q f = record {
-  at = onward w.at (Tails.behind b all inner r p h (tail_of s w.good) us vs m x q f);
+pub to_tail : {b : Base} {t : Table b} {all low inner : Language b} {A B : Type 0} {g : Gram b A} {r : b.Rule} {p : b.Shape} {h : Gram b B} {ts us vs ws : List b.Token} {m : b.Token} {build : b.RuleTree r × Option B → A} {x : b.RuleTree r} →
+    Setting b t all inner → Way b t all low g ts inner (tail r p h) us build → Reads b all inner (call r) us x vs → Next b p vs m ws → Way b t all low g ts inner h ws (λ y. build (x, Some y))
+to_tail {b} {t} {all} {inner = inner} {r = r} {p = p} {h = h} {us = us} {vs = vs} {ws = ws} {m = m} {x = x} s w q f = record {
+  at = onward w.at (Tails.behind_next b all inner r p h (tail_of s w.good) us vs ws m x q f);
   good = tail_good;
 }
   where

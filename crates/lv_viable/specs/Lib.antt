@@ -4,3 +4,4 @@ pub mod Sets
 pub mod Reading
 pub mod Facts
 pub mod At
+pub mod Nexts

@@ -139,3 +139,22 @@ rule_shapes b g (suc n) r = shapes_in b (rule_shapes b g n) (g r)
 
 abbrev pub shapes : (b : Base) → Rules b → ℕ → {A : Type 0} → Gram b A → List b.Shape
 shapes b g n h = shapes_in b (rule_shapes b g n) h
+
+-- whether some tree is spelled, from whether one of each rule is
+abbrev pub has_tree_in : (b : Base) → (b.Rule → Bool) → {A : Type 0} → Gram b A → Bool
+has_tree_in b c none = true
+has_tree_in b c (one p) = true
+has_tree_in b c (leaf k) = true
+has_tree_in b c (call r) = c r
+has_tree_in b c (act f g) = has_tree_in b c g
+has_tree_in b c (both g h) = has_tree_in b c g && has_tree_in b c h
+has_tree_in b c (either g h) = has_tree_in b c g || has_tree_in b c h
+has_tree_in b c (perhaps g) = true
+has_tree_in b c (many g) = true
+has_tree_in b c (until g h) = has_tree_in b c h
+has_tree_in b c (tail r p h) = c r
+
+-- the same of rules, n deep
+abbrev pub rule_has_tree : (b : Base) → Rules b → ℕ → b.Rule → Bool
+rule_has_tree b g zero r = false
+rule_has_tree b g (suc n) r = has_tree_in b (rule_has_tree b g n) (g r)

@@ -4,9 +4,10 @@
 
 ghost use Rattle.std.specs.Prelude.{◌≡◌, ◌↔◌, ℕ, List, [], ◌∷◌, ◌++◌, Bool, true, false};
 ghost use Rattle.lv_viable.specs.Grammar.{Base, Gram, left, right, call, both, either, perhaps, many, until, tail};
-ghost use Rattle.lv_viable.specs.Spelling.{Language, IsSpelled, called, allows, inner};
-ghost use Rattle.lv_viable.specs.Sets.{Table, Set, is_in, among, union, apart, within, first, is_good, shapes};
+ghost use Rattle.lv_viable.specs.Spelling.{Language, any, IsSpelled, called, allows, inner};
+ghost use Rattle.lv_viable.specs.Sets.{Table, Set, is_in, among, union, apart, within, is_good, shapes, rule_has_tree};
 ghost use Rattle.lv_viable.specs.Reading.{Begins, Reads, Fails, PassesLimit};
+ghost use Rattle.lv_viable.specs.Nexts.{Next, Lacks, Outside, Opens};
 ghost use Rattle.lv_viable.specs.At.{At, Standing, StandingUntil};
 ghost use Rattle.lv_viable.specs.Facts.{IsBase, IsLanguage, IsWithin, Facts};
 
@@ -80,50 +81,41 @@ pub fn parts_are_read_in_turn<X: Spelled>()
 /// Of a choice that answers are the one's for which the next token speaks, and a grammar that may be left out is left out or read.
 pub fn choices_are_by_the_next_token<X: Spelled>()
     ensures left { IsBase X.base → IsLanguage X.base X.table X.all → is_good X.base X.table (either X.grammar X.other) ≡ true →
-        (ts : List X.base.Token) → ((m : X.base.Token) (us : List X.base.Token) → ts ≡ m ∷ us → is_in X.base (first X.base X.table X.other) m ≡ false) →
-        At X.base X.all X.low (either X.grammar X.other) ts X.low X.grammar ts left }
+        (ts : List X.base.Token) → Outside X.base X.table X.other ts → At X.base X.all X.low (either X.grammar X.other) ts X.low X.grammar ts left }
     ensures right { IsBase X.base → IsLanguage X.base X.table X.all → is_good X.base X.table (either X.grammar X.other) ≡ true →
-        (ts : List X.base.Token) → ((m : X.base.Token) (us : List X.base.Token) → ts ≡ m ∷ us → is_in X.base (first X.base X.table X.grammar) m ≡ false) →
-        At X.base X.all X.low (either X.grammar X.other) ts X.low X.other ts right }
-    ensures given { (m : X.base.Token) (us : List X.base.Token) → Begins X.base X.all X.grammar (m ∷ []) →
-        At X.base X.all X.low (perhaps X.grammar) (m ∷ us) X.low X.grammar (m ∷ us) Some }
+        (ts : List X.base.Token) → Outside X.base X.table X.grammar ts → At X.base X.all X.low (either X.grammar X.other) ts X.low X.other ts right }
+    ensures given { (ts : List X.base.Token) → Opens X.base X.all X.grammar ts → At X.base X.all X.low (perhaps X.grammar) ts X.low X.grammar ts Some }
     ensures left_out { IsBase X.base → IsLanguage X.base X.table X.all → is_good X.base X.table (perhaps X.grammar) ≡ true →
-        (ts : List X.base.Token) → ((m : X.base.Token) (us : List X.base.Token) → ts ≡ m ∷ us → is_in X.base (first X.base X.table X.grammar) m ≡ false) →
-        Reads X.base X.all X.low (perhaps X.grammar) ts None ts }
+        (ts : List X.base.Token) → Outside X.base X.table X.grammar ts → Reads X.base X.all X.low (perhaps X.grammar) ts None ts }
 {}
 
 /// Any number of trees: what each further one adds, and where they end.
 pub fn repetitions_are_read_one_by_one<X: Spelled>()
     ensures further { IsBase X.base → IsLanguage X.base X.table X.all → is_good X.base X.table (many X.grammar) ≡ true →
         (ts us vs : List X.base.Token) (xs : List X) (x : X) → Standing X.base X.all X.low X.grammar ts us xs →
-        (m : X.base.Token) (ws : List X.base.Token) → us ≡ m ∷ ws → Begins X.base X.all X.grammar (m ∷ []) →
-        Reads X.base X.all X.low X.grammar us x vs → Standing X.base X.all X.low X.grammar ts vs (xs ++ (x ∷ [])) }
+        Opens X.base X.all X.grammar us → Reads X.base X.all X.low X.grammar us x vs → Standing X.base X.all X.low X.grammar ts vs (xs ++ (x ∷ [])) }
     ensures done { IsBase X.base → IsLanguage X.base X.table X.all → is_good X.base X.table (many X.grammar) ≡ true →
         (ts us : List X.base.Token) (xs : List X) → Standing X.base X.all X.low X.grammar ts us xs →
-        ((m : X.base.Token) (ws : List X.base.Token) → us ≡ m ∷ ws → is_in X.base (first X.base X.table X.grammar) m ≡ false) →
-        Reads X.base X.all X.low (many X.grammar) ts xs us }
+        Outside X.base X.table X.grammar us → Reads X.base X.all X.low (many X.grammar) ts xs us }
     ensures further_until { IsBase X.base → IsLanguage X.base X.table X.all → is_good X.base X.table (until X.grammar X.other) ≡ true →
         (ts us vs : List X.base.Token) (xs : List X) (x : X) → StandingUntil X.base X.all X.low X.grammar X.other ts us xs →
-        ((m : X.base.Token) (ws : List X.base.Token) → us ≡ m ∷ ws → is_in X.base (first X.base X.table X.other) m ≡ false) →
-        Reads X.base X.all X.low X.grammar us x vs → StandingUntil X.base X.all X.low X.grammar X.other ts vs (xs ++ (x ∷ [])) }
+        Outside X.base X.table X.other us → Reads X.base X.all X.low X.grammar us x vs → StandingUntil X.base X.all X.low X.grammar X.other ts vs (xs ++ (x ∷ [])) }
     ensures ended { IsBase X.base → IsLanguage X.base X.table X.all → is_good X.base X.table (until X.grammar X.other) ≡ true →
         (ts us : List X.base.Token) (xs : List X) → StandingUntil X.base X.all X.low X.grammar X.other ts us xs →
-        ((m : X.base.Token) (ws : List X.base.Token) → us ≡ m ∷ ws → is_in X.base (first X.base X.table X.grammar) m ≡ false) →
-        At X.base X.all X.low (until X.grammar X.other) ts X.low X.other us (λ y. (xs, y)) }
+        Outside X.base X.table X.grammar us → At X.base X.all X.low (until X.grammar X.other) ts X.low X.other us (λ y. (xs, y)) }
 {}
 
 /// A rule is read as its grammar where the limits allow it, and with a tail where its mark is next.
 pub fn rules_are_read_within_limits<X: Spelled>()
     ensures allowed { (r : X.base.Rule) (ts : List X.base.Token) → allows (X.low.limits (X.base.count r)) ≡ true →
         At X.base X.all X.low (call r) ts (inner X.base X.low r) (X.low.rules r) ts (λ x. x) }
-    ensures barred { (r : X.base.Rule) (m : X.base.Token) (us : List X.base.Token) → allows (X.low.limits (X.base.count r)) ≡ false →
-        Begins X.base X.all (call r) (m ∷ []) → PassesLimit X.base X.all X.low (call r) (m ∷ us) (m ∷ us) }
+    ensures barred { (r : X.base.Rule) (ts : List X.base.Token) → allows (X.low.limits (X.base.count r)) ≡ false →
+        Opens X.base X.all (call r) ts → PassesLimit X.base X.all X.low (call r) ts ts }
     ensures tailed { IsBase X.base → IsLanguage X.base X.table X.all → (r : X.base.Rule) (p : X.base.Shape) → is_good X.base X.table (tail r p X.other) ≡ true →
-        (ts us : List X.base.Token) (m : X.base.Token) (x : X.base.RuleTree r) → Reads X.base X.all X.low (call r) ts x (m ∷ us) → X.base.fits p m ≡ true →
-        At X.base X.all X.low (tail r p X.other) ts X.low X.other us (λ y. (x, Some y)) }
+        (ts us vs : List X.base.Token) (m : X.base.Token) (x : X.base.RuleTree r) → Reads X.base X.all X.low (call r) ts x us → Next X.base p us m vs →
+        At X.base X.all X.low (tail r p X.other) ts X.low X.other vs (λ y. (x, Some y)) }
     ensures without { IsBase X.base → IsLanguage X.base X.table X.all → (r : X.base.Rule) (p : X.base.Shape) → is_good X.base X.table (tail r p X.other) ≡ true →
-        (ts us : List X.base.Token) (x : X.base.RuleTree r) → Reads X.base X.all X.low (call r) ts x us →
-        ((m : X.base.Token) (vs : List X.base.Token) → us ≡ m ∷ vs → X.base.fits p m ≡ false) →
+        (ts us : List X.base.Token) (x : X.base.RuleTree r) → Reads X.base X.all X.low (call r) ts x us → Lacks X.base p us →
         Reads X.base X.all X.low (tail r p X.other) ts (x, None) us }
 {}
 
@@ -131,4 +123,11 @@ pub fn rules_are_read_within_limits<X: Spelled>()
 pub fn computed_tokens_begin_trees<X: Spelled>()
     ensures { IsBase X.base → IsLanguage X.base X.table X.all → (n : ℕ) (p : X.base.Shape) (m : X.base.Token) →
         among X.base (shapes X.base X.all.rules n X.grammar) p ≡ true → X.base.fits p m ≡ true → Begins X.base X.all X.grammar (m ∷ []) }
+{}
+
+/// A rule has a tree where that is computed, as many rules deep as one looks, if each leaf has one.
+pub fn computed_rules_have_trees<X: Spelled>()
+    ensures { IsBase X.base → ((k : X.base.Leaf) → (us : List X.base.Token) × (x : X.base.LeafTree k) × X.all.leaves k us x) → ((j : ℕ) → X.all.limits j ≡ any) →
+        (n : ℕ) (r : X.base.Rule) → rule_has_tree X.base X.all.rules n r ≡ true →
+        (us : List X.base.Token) × (o : Bool) × (x : X.base.RuleTree r) × called X.base X.all r us o x }
 {}

@@ -1,5 +1,5 @@
--- What a reader's answer says of the tokens before it: a tree that goes no further, the first token with which nothing goes
--- on, or the first with which all that goes on passes a limit.
+-- What a reader's answer says of the tokens before it: a tree that goes no further, a token with which nothing goes on, or one
+-- with which all that goes on passes a limit.
 use Rattle.std.specs.Prelude.{◌≡◌, List, [], ◌∷◌, ◌++◌, Bool}
 use Rattle.lv_viable.specs.Grammar.{Base, Gram}
 use Rattle.lv_viable.specs.Spelling.{Language, IsSpelled}

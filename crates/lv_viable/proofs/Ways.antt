@@ -122,9 +122,9 @@ to_none {b} {t} {h = h} {us = us} s w f = w.at.reads None us
 
 -- ---- a rule's tree and perhaps a tail
 
-pub to_tail : {b : Base} {t : Table b} {all low inner : Language b} {A B : Type 0} {g : Gram b A} {r : b.Rule} {p : b.Shape} {h : Gram b B} {ts us vs ws : List b.Token} {m : b.Token} {build : b.RuleTree r × Option B → A} {x : b.RuleTree r} →
+pub to_tail : {b : Base} {t : Table b} {all low inner : Language b} {A B : Type 0} {g : Gram b A} (r : b.Rule) {p : b.Shape} {h : Gram b B} {ts us vs ws : List b.Token} {m : b.Token} {build : b.RuleTree r × Option B → A} {x : b.RuleTree r} →
     Setting b t all inner → Way b t all low g ts inner (tail r p h) us build → Reads b all inner (call r) us x vs → Next b p vs m ws → Way b t all low g ts inner h ws (λ y. build (x, Some y))
-to_tail {b} {t} {all} {inner = inner} {r = r} {p = p} {h = h} {us = us} {vs = vs} {ws = ws} {m = m} {x = x} s w q f = record {
+to_tail {b} {t} {all} {inner = inner} r {p = p} {h = h} {us = us} {vs = vs} {ws = ws} {m = m} {x = x} s w q f = record {
   at = onward w.at (Tails.behind_next b all inner r p h (tail_of s w.good) us vs ws m x q f);
   good = tail_good;
 }
@@ -132,14 +132,14 @@ to_tail {b} {t} {all} {inner = inner} {r = r} {p = p} {h = h} {us = us} {vs = vs
     tail_good : is_good b t h ≡ true
     tail_good = let z : (is_good b t h ≡ true) × (not (may_be_empty b h) ≡ true) × (b.same p t.tail_mark ≡ true) × (apart b (t.rule_next r) (these (t.tail_mark ∷ [])) ≡ true) = four_true _ _ _ _ w.good in z.0
 
-pub no_tail : {b : Base} {t : Table b} {all low inner : Language b} {A B : Type 0} {g : Gram b A} {r : b.Rule} {p : b.Shape} {h : Gram b B} {ts us vs : List b.Token} {build : b.RuleTree r × Option B → A} {x : b.RuleTree r} →
+pub no_tail : {b : Base} {t : Table b} {all low inner : Language b} {A B : Type 0} {g : Gram b A} (r : b.Rule) {p : b.Shape} {h : Gram b B} {ts us vs : List b.Token} {build : b.RuleTree r × Option B → A} {x : b.RuleTree r} →
     Setting b t all inner → Way b t all low g ts inner (tail r p h) us build → Reads b all inner (call r) us x vs → Lacks b p vs → Reads b all low g ts (build (x, None)) vs
-no_tail {b} {all = all} {inner = inner} {r = r} {p = p} {h = h} {us = us} {vs = vs} {x = x} s w q f = w.at.reads (x, None) vs (Tails.without b all inner r p h (tail_of s w.good) us vs x q f)
+no_tail {b} {all = all} {inner = inner} r {p = p} {h = h} {us = us} {vs = vs} {x = x} s w q f = w.at.reads (x, None) vs (Tails.without b all inner r p h (tail_of s w.good) us vs x q f)
 
-pub tail_stops : {b : Base} {t : Table b} {all low inner : Language b} {A B : Type 0} {g : Gram b A} {r : b.Rule} {p : b.Shape} {h : Gram b B} {ts us rest : List b.Token} {build : b.RuleTree r × Option B → A} →
+pub tail_stops : {b : Base} {t : Table b} {all low inner : Language b} {A B : Type 0} {g : Gram b A} (r : b.Rule) {p : b.Shape} {h : Gram b B} {ts us rest : List b.Token} {build : b.RuleTree r × Option B → A} →
     Setting b t all inner → Way b t all low g ts inner (tail r p h) us build → Fails b all (call r) us rest → Fails b all g ts rest
-tail_stops {b} {all = all} {inner = inner} {r = r} {p = p} {h = h} {us = us} {rest = rest} s w q = w.at.fails rest (Tails.fails b all inner r p h (tail_of s w.good) us rest q)
+tail_stops {b} {all = all} {inner = inner} r {p = p} {h = h} {us = us} {rest = rest} s w q = w.at.fails rest (Tails.fails b all inner r p h (tail_of s w.good) us rest q)
 
-pub tail_high : {b : Base} {t : Table b} {all low inner : Language b} {A B : Type 0} {g : Gram b A} {r : b.Rule} {p : b.Shape} {h : Gram b B} {ts us rest : List b.Token} {build : b.RuleTree r × Option B → A} →
+pub tail_high : {b : Base} {t : Table b} {all low inner : Language b} {A B : Type 0} {g : Gram b A} (r : b.Rule) {p : b.Shape} {h : Gram b B} {ts us rest : List b.Token} {build : b.RuleTree r × Option B → A} →
     Setting b t all inner → Way b t all low g ts inner (tail r p h) us build → PassesLimit b all inner (call r) us rest → PassesLimit b all low g ts rest
-tail_high {b} {all = all} {inner = inner} {r = r} {p = p} {h = h} {us = us} {rest = rest} s w q = w.at.passes rest (Tails.passes b all inner r p h (tail_of s w.good) us rest q)
+tail_high {b} {all = all} {inner = inner} r {p = p} {h = h} {us = us} {rest = rest} s w q = w.at.passes rest (Tails.passes b all inner r p h (tail_of s w.good) us rest q)

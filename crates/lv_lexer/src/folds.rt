@@ -590,6 +590,7 @@ pub fn directives(alloc: Global, tokens: Tokens) -> Result<Tokens, DirectiveErro
     ensures unstopped { OnOk result ((spec.reading_of tokens.text tokens.list).stop ≡ None) }
     ensures few { OnOk result (spec.counted (spec.reading_of tokens.text tokens.list) ≤ 500000) }
     ensures refused { IfErr result (IsFoldRefusal (spec.reading_of tokens.text tokens.list)) }
+    ensures unrefused { OnOk result ((e : DirectiveError) → IsFoldRefusal (spec.reading_of tokens.text tokens.list) e → e ≡ DirectiveError.NoMemory) }
 {
     let out = fold_list(alloc, tokens.text.bytes(), tokens.list.as_slice())?;
     let list = out.into_list();

@@ -1,8 +1,8 @@
-ghost use Rattle.std.specs.Prelude.{◌≡◌, ◌≤◌, ◌<◌, true, [], ◌∷◌, ◌++◌, length, IfOk, IfErr, OnOk, List};
-ghost use Rattle.lv_ast.specs.TokenLists.{IsTokenListOf, IsTokenAt};
+ghost use Rattle.std.specs.Prelude.{◌≡◌, ◌≤◌, ◌<◌, true, [], ◌∷◌, ◌++◌, length, IfOk, IfErr, IsErrAnd, OnOk, List};
+ghost use Rattle.lv_ast.specs.TokenLists.{BeginsWithMore, IsTokenListOf, IsTokenAt};
 ghost use Rattle.lv_ast.specs.Tokens.{fits, token_bytes};
 ghost use Rattle.lv_ast.specs.declared.tokens.Token.{Token};
-ghost use Rattle.lv_lexer.specs.Refusals.{IsLexRefusal, Stand};
+ghost use Rattle.lv_lexer.specs.Refusals.{IsLexRefusal, IsRefusalOfMany, Stand};
 
 use crate::bytes::skip;
 use crate::error::LexError;
@@ -23,6 +23,7 @@ fn take_token(bytes: &[u8], list: &mut Items<Token>, token: Token) -> Result<(),
     requires fits { fits token.kind (token_bytes bytes.now token) ≡ true }
     ensures ok { OnOk result (Stand bytes.now list.new token.end) }
     ensures err { IfErr result (IsLexRefusal bytes.now) }
+    ensures many { BeginsWithMore MOST_TOKENS bytes.now → IfErr result IsRefusalOfMany }
 {
     if list.len() == MOST_TOKENS {
         return Err(LexError::TooMany(MOST_TOKENS as u64 + 1));
@@ -40,6 +41,7 @@ fn step(bytes: &[u8], place: usize, list: &mut Items<Token>) -> Result<usize, Le
     ensures ok { IfOk result (λ next. (place < next) × (next ≤ length bytes.now)) }
     ensures stand { IfOk result (Stand bytes.now list.new) }
     ensures err { IfErr result (IsLexRefusal bytes.now) }
+    ensures many { BeginsWithMore MOST_TOKENS bytes.now → IfErr result IsRefusalOfMany }
 {
     match next_piece(skip(bytes, place)) {
         Piece::Gap(length) => Ok(place + length),
@@ -67,6 +69,8 @@ pub fn lex(alloc: Global, bytes: &[u8]) -> Result<Tokens, LexError>
     ensures only { IfOk result (λ tokens. (other : List Token) → IsTokenListOf bytes.now other → other ≡ tokens.list) }
     ensures few { IfOk result (λ tokens. length tokens.list ≤ MOST_TOKENS) }
     ensures refused { IfErr result (IsLexRefusal bytes.now) }
+    ensures unrefused { OnOk result ((e : LexError) → IsLexRefusal bytes.now e → e ≡ LexError.NoMemory) }
+    ensures many { BeginsWithMore MOST_TOKENS bytes.now → IsErrAnd result IsRefusalOfMany }
 {
     let text = match Text::new(alloc, bytes) {
         Ok(text) => text,

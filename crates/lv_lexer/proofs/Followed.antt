@@ -93,3 +93,17 @@ reads_then o p n a b r h k =
 
 pub refused_first : (o : Output) (a b : Reading) (e : DirectiveError) → IsFoldRefusal (followed (done o) a) e → IsFoldRefusal (followed (done o) (followed a b)) e
 refused_first o a b e h = subst (λ x. IsFoldRefusal x e) (followed_assoc (done o) a b) (refusal_stays (followed (done o) a) b e h)
+
+-- ---- what was read whole
+
+unstopped : (r : Reading) (s : Stop) → r.stop ≡ None → r.stop ≡ Some s → ⊥
+unstopped r s n h = none-some s (sym n ∙ h)
+
+-- no refusal but want of memory has its cause
+pub no_fold_refusal : (r : Reading) → r.stop ≡ None → counted r ≤ 500000 → (e : DirectiveError) → IsFoldRefusal r e → e ≡ NoMemory
+no_fold_refusal r n l (UnknownMacro p) h = absurd (unstopped r _ n h)
+no_fold_refusal r n l (Unbalanced p) h = absurd (unstopped r _ n h)
+no_fold_refusal r n l (Malformed p) h = absurd (unstopped r _ n h)
+no_fold_refusal r n l (Depth p) h = absurd (unstopped r _ n h)
+no_fold_refusal r n l (TooMany m) h = let k : 500000 < counted r = h.1 in absurd (omega (arith, k, l))
+no_fold_refusal r n l NoMemory h = refl

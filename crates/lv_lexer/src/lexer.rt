@@ -62,7 +62,8 @@ fn step(bytes: &[u8], place: usize, list: &mut Items<Token>) -> Result<usize, Le
 
 /// The token list of a text: the longest token at each place, with `Line` and `Join` tokens, and without white space
 /// and comments (IEEE 1364-2005, section 3). Each place in a refusal is one that white space, whole comments and
-/// tokens lead to; `TooMany` carries the first number above the limit.
+/// tokens lead to; `TooMany` carries the first number above the limit. A text that begins with more tokens than the
+/// limit is told so, unless it has a bad literal or memory is wanted.
 pub fn lex(alloc: Global, bytes: &[u8]) -> Result<Tokens, LexError>
     ensures text { IfOk result (λ tokens. tokens.text ≡ bytes.now) }
     ensures list { IfOk result (λ tokens. IsTokenListOf bytes.now tokens.list) }

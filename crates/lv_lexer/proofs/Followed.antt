@@ -7,7 +7,7 @@ use Rattle.lv_ast.specs.declared.tokens.Token.{Token}
 use Rattle.lv_lexer.specs.declared.error.DirectiveError.{DirectiveError}
 use Rattle.lv_lexer.specs.declared.error.DirectiveError.TheVariants.{UnknownMacro, Unbalanced, Malformed, Depth, TooMany, NoMemory}
 use Rattle.lv_lexer.specs.declared.output.Output.{Output}
-use Rattle.lv_lexer.specs.Readings.{done, used, Reads, Stops, IsFoldRefusal, IsFoldAnswer, IsRefusalOfMany}
+use Rattle.lv_lexer.specs.Readings.{done, used, Reads, Stops, IsFoldRefusal, IsFoldAnswer, IsFoldRefusalOfMany}
 
 abbrev pub so_far : List Token → ℕ → Reading
 so_far l u = record { tokens = l; uses = u; stop = None }
@@ -122,7 +122,7 @@ not-many : (r : Reading) (s : Stop) → Stops r s → 500000 < counted r → ⊥
 not-many r s h m = let k : counted r ≤ 500000 = h.1 in omega (arith, k, m)
 
 -- where the limit is passed, it is the limit
-pub answer_many : (r : Reading) (e : DirectiveError) → 500000 < counted r → IsFoldAnswer r e → IsRefusalOfMany e
+pub answer_many : (r : Reading) (e : DirectiveError) → 500000 < counted r → IsFoldAnswer r e → IsFoldRefusalOfMany e
 answer_many r (UnknownMacro p) m h = not-many r _ h m
 answer_many r (Unbalanced p) m h = not-many r _ h m
 answer_many r (Malformed p) m h = not-many r _ h m

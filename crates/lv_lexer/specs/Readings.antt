@@ -32,13 +32,13 @@ IsFoldAnswer r (TooMany n) = (n ≡ 500001) × (500000 < counted r)
 IsFoldAnswer r NoMemory = Unit {0}
 
 -- what a list whose reading passes the limit is refused as
-abbrev pub IsRefusalOfMany : DirectiveError → Type 0
-IsRefusalOfMany (UnknownMacro p) = ⊥
-IsRefusalOfMany (Unbalanced p) = ⊥
-IsRefusalOfMany (Malformed p) = ⊥
-IsRefusalOfMany (Depth p) = ⊥
-IsRefusalOfMany (TooMany n) = n ≡ 500001
-IsRefusalOfMany NoMemory = Unit {0}
+abbrev pub IsFoldRefusalOfMany : DirectiveError → Type 0
+IsFoldRefusalOfMany (UnknownMacro p) = ⊥
+IsFoldRefusalOfMany (Unbalanced p) = ⊥
+IsFoldRefusalOfMany (Malformed p) = ⊥
+IsFoldRefusalOfMany (Depth p) = ⊥
+IsFoldRefusalOfMany (TooMany n) = n ≡ 500001
+IsFoldRefusalOfMany NoMemory = Unit {0}
 
 -- what a call adds to what was read, or why it ends there
 abbrev pub Reads : {T : Type 0} → Output → Reading → Result T DirectiveError → Output → Type 0

@@ -3,7 +3,7 @@ ghost use Rattle.std.specs.List.{list_any};
 ghost use Rattle.std.specs.Str.{bytes_eq};
 ghost use Rattle.lv_ast.specs.Folds as spec;
 ghost use Rattle.lv_ast.specs.Folds.{Macro};
-ghost use Rattle.lv_lexer.specs.Readings.{Reads, IsFoldAnswer, IsFoldRefusal, IsRefusalOfMany, done};
+ghost use Rattle.lv_lexer.specs.Readings.{Reads, IsFoldAnswer, IsFoldRefusal, IsFoldRefusalOfMany, done};
 ghost use Rattle.lv_lexer.specs.Shown.{branch_shown, directive_shown};
 ghost use Rattle.lv_lexer.specs.Tables.{Keeps};
 
@@ -592,7 +592,7 @@ pub fn directives(alloc: Global, tokens: Tokens) -> Result<Tokens, DirectiveErro
     ensures few { OnOk result (spec.counted (spec.reading_of tokens.text tokens.list) ≤ 500000) }
     ensures refused { IfErr result (IsFoldRefusal (spec.reading_of tokens.text tokens.list)) }
     ensures unrefused { OnOk result ((e : DirectiveError) → IsFoldRefusal (spec.reading_of tokens.text tokens.list) e → e ≡ DirectiveError.NoMemory) }
-    ensures many { 500000 < spec.counted (spec.reading_of tokens.text tokens.list) → IsErrAnd result IsRefusalOfMany }
+    ensures many { 500000 < spec.counted (spec.reading_of tokens.text tokens.list) → IsErrAnd result IsFoldRefusalOfMany }
 {
     let out = fold_list(alloc, tokens.text.bytes(), tokens.list.as_slice())?;
     let list = out.into_list();

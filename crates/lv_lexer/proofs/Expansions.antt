@@ -1,9 +1,9 @@
 -- What a token of a body gives.
-use Rattle.std.proofs.Common.{◌≡◌, ℕ, zero, suc, ◌+◌, ◌-◌, ◌<◌, ◌≤◌, true, false, if◌then◌else◌, List, [], ◌∷◌, length, drop, Option, Some, None, refl, sym, ap, ◌∙◌, arith}
-use Rattle.lv_ast.specs.Folds.{Reading, Macro, Stop, UnknownMacro, Depth, followed, stopped, one, in_order, expansion, expanded_body, body_of, word_of, is_tick, nothing}
+use Rattle.std.proofs.Common.{◌≡◌, ℕ, zero, suc, ◌+◌, ◌-◌, ◌<◌, ◌≤◌, true, false, if◌then◌else◌, List, [], ◌∷◌, ◌++◌, length, drop, Option, Some, None, refl, sym, ap, ◌∙◌, subst, arith, length-append}
+use Rattle.lv_ast.specs.Folds.{Reading, Macro, Stop, UnknownMacro, Depth, followed, stopped, one, counted, in_order, expansion, expanded_body, body_of, word_of, is_tick, nothing}
 use Rattle.lv_ast.specs.declared.tokens.Token.{Token}
 use Rattle.lv_lexer.specs.declared.output.Output.{Output}
-use Rattle.lv_lexer.specs.Readings.{done, used}
+use Rattle.lv_lexer.specs.Readings.{done, used, Stops}
 use Rattle.lv_lexer.proofs.Followed.{so_far, used_first, followed_nothing}
 use Rattle.lv_lexer.proofs.Lines.{token_at, drop_at, drop_all}
 
@@ -16,13 +16,20 @@ too-deep : (text : List ℕ) (ms : List Macro) (t : Token) → is_tick t.kind �
 unfolding expansion
 too-deep text ms t h = sym (ap (λ b. if b then stopped (Depth t.start) else one t) h)
 
-pub stops : (l : List Token) (u : ℕ) (s : Stop) → (followed (so_far l u) (stopped s)).stop ≡ Some s
+stop-of : (l : List Token) (u : ℕ) (s : Stop) → (followed (so_far l u) (stopped s)).stop ≡ Some s
 unfolding followed
-stops l u s = refl
+stop-of l u s = refl
 
-pub expands_too_deep : (text : List ℕ) (ms : List Macro) (n : ℕ) (t : Token) (o : Output) → n ≡ 0 → is_tick t.kind ≡ true → (followed (done o) (expansion text ms n t)).stop ≡ Some (Depth t.start)
+count-of : (l : List Token) (u : ℕ) (s : Stop) → counted (followed (so_far l u) (stopped s)) ≡ length l + u
+unfolding followed
+count-of l u s = let e : length (l ++ []) ≡ length l + 0 = length-append l [] in omega (arith, e)
+
+pub stops : (o : Output) (s : Stop) → Stops (followed (done o) (stopped s)) s
+stops o s = (stop-of o.list o.uses s, let e : counted (followed (done o) (stopped s)) ≡ length o.list + o.uses = count-of o.list o.uses s in let f : length o.list + o.uses ≤ 500000 = o.few in omega (arith, e, f))
+
+pub expands_too_deep : (text : List ℕ) (ms : List Macro) (n : ℕ) (t : Token) (o : Output) → n ≡ 0 → is_tick t.kind ≡ true → Stops (followed (done o) (expansion text ms n t)) (Depth t.start)
 expands_too_deep text ms n t o e h =
-    ap (λ k. (followed (done o) (expansion text ms k t)).stop) e ∙ (ap (λ r. (followed (done o) r).stop) (sym (too-deep text ms t h)) ∙ stops o.list o.uses (Depth t.start))
+    subst (λ r. Stops (followed (done o) r) (Depth t.start)) (too-deep text ms t h ∙ ap (λ k. expansion text ms k t) (sym e)) (stops o (Depth t.start))
 
 with-body : (text : List ℕ) (ms : List Macro) (n : ℕ) (t : Token) (b : Option (List Token)) → is_tick t.kind ≡ true → b ≡ body_of ms (word_of text t) → expanded_body (expansion text ms n) t b ≡ expansion text ms (suc n) t
 unfolding expansion
@@ -31,10 +38,9 @@ with-body text ms n t b h e = ap (expanded_body (expansion text ms n) t) e ∙ s
 positive : (n : ℕ) → (n ≡ 0 → ⊥) → n ≡ suc (n - 1)
 positive n h = omega (arith, h)
 
-pub expands_unknown : (text : List ℕ) (ms : List Macro) (n : ℕ) (t : Token) (o : Output) → (n ≡ 0 → ⊥) → is_tick t.kind ≡ true → None ≡ body_of ms (word_of text t) → (followed (done o) (expansion text ms n t)).stop ≡ Some (UnknownMacro t.start)
+pub expands_unknown : (text : List ℕ) (ms : List Macro) (n : ℕ) (t : Token) (o : Output) → (n ≡ 0 → ⊥) → is_tick t.kind ≡ true → None ≡ body_of ms (word_of text t) → Stops (followed (done o) (expansion text ms n t)) (UnknownMacro t.start)
 expands_unknown text ms n t o p h e =
-    ap (λ k. (followed (done o) (expansion text ms k t)).stop) (positive n p)
-    ∙ (ap (λ r. (followed (done o) r).stop) (sym (with-body text ms (n - 1) t None h e)) ∙ stops o.list o.uses (UnknownMacro t.start))
+    subst (λ r. Stops (followed (done o) r) (UnknownMacro t.start)) (with-body text ms (n - 1) t None h e ∙ ap (λ k. expansion text ms k t) (sym (positive n p))) (stops o (UnknownMacro t.start))
 
 pub expands_body : (text : List ℕ) (ms : List Macro) (n : ℕ) (t : Token) (body : List Token) → (n ≡ 0 → ⊥) → is_tick t.kind ≡ true → Some body ≡ body_of ms (word_of text t) → followed used (in_order (expansion text ms (n - 1)) body) ≡ expansion text ms n t
 expands_body text ms n t body p h e =

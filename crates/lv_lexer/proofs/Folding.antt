@@ -1,12 +1,12 @@
 -- What was read, and what reading the rest gives.
-use Rattle.std.proofs.Common.{◌≡◌, ℕ, zero, suc, List, [], ◌∷◌, ◌++◌, length, drop, Some, None, refl, sym, ap, ◌∙◌, subst}
+use Rattle.std.proofs.Common.{◌≡◌, ℕ, zero, suc, List, [], ◌∷◌, ◌++◌, length, drop, None, refl, sym, ap, ◌∙◌, subst}
 use Rattle.lv_ast.specs.Folds.{Reading, Step, Macro, Unbalanced, followed, stopped, nothing, reading_of, reading_from, step_of, body_of}
 use Rattle.lv_ast.specs.Folds as folds
 use Rattle.lv_ast.specs.declared.tokens.Token.{Token}
 use Rattle.lv_lexer.specs.declared.error.DirectiveError.{DirectiveError}
 use Rattle.lv_lexer.specs.declared.folds.Branch.{Branch}
 use Rattle.lv_lexer.specs.declared.folds.Fold.{Fold}
-use Rattle.lv_lexer.specs.Readings.{done, IsFoldRefusal}
+use Rattle.lv_lexer.specs.Readings.{done, Stops, IsFoldAnswer}
 use Rattle.lv_lexer.specs.Shown.{top_first, branch_shown}
 use Rattle.lv_lexer.specs.Steps.{Stepped, Folding}
 use Rattle.lv_lexer.specs.Tables.{body_in}
@@ -57,10 +57,10 @@ fold_more text list rest after left old new t n f e d s =
           ∙ (ap (λ b. reading_from text 0 st.macros b (drop n after)) (sym s.branches) ∙ ap (reading_from text 0 st.macros (top_first new.branches)) (sym d))))))));
     }
 
-pub fold_refused : (text : List ℕ) (list rest after : List Token) (old : Fold) (t : Token) (e : DirectiveError) (f : Folding text list old rest) → rest ≡ (t ∷ after) → IsFoldRefusal (followed (done old.out) (step_of text f.macros (top_first old.branches) t after).reading) e → IsFoldRefusal (reading_of text list) e
+pub fold_refused : (text : List ℕ) (list rest after : List Token) (old : Fold) (t : Token) (e : DirectiveError) (f : Folding text list old rest) → rest ≡ (t ∷ after) → IsFoldAnswer (followed (done old.out) (step_of text f.macros (top_first old.branches) t after).reading) e → IsFoldAnswer (reading_of text list) e
 fold_refused text list rest after old t e f h r =
     let st : Step = step_of text f.macros (top_first old.branches) t after in
-    subst (λ x. IsFoldRefusal x e)
+    subst (λ x. IsFoldAnswer x e)
     (sym (f.same ∙ (ap (λ l. followed (done old.out) (reading_from text 0 f.macros (top_first old.branches) l)) h ∙ ap (followed (done old.out)) (one-more text f.macros (top_first old.branches) t after))))
     (refused_first old.out st.reading (reading_from text st.taken st.macros st.branches after) e r)
 
@@ -86,7 +86,8 @@ still-open : (text : List ℕ) (ms : List Macro) (bs : List Branch) → (bs ≡ 
 still-open text ms [] h = absurd (h refl)
 still-open text ms (b ∷ bs) h = open-bs text ms (top_first bs) (branch_shown b)
 
-pub fold_open : (text : List ℕ) (list rest : List Token) (fold : Fold) → Folding text list fold rest → rest ≡ [] → (fold.branches ≡ [] → ⊥) → (reading_of text list).stop ≡ Some (Unbalanced (length text))
+pub fold_open : (text : List ℕ) (list rest : List Token) (fold : Fold) → Folding text list fold rest → rest ≡ [] → (fold.branches ≡ [] → ⊥) → Stops (reading_of text list) (Unbalanced (length text))
 fold_open text list rest fold f e b =
-    ap (λ r. r.stop) (f.same ∙ (ap (λ l. followed (done fold.out) (reading_from text 0 f.macros (top_first fold.branches) l)) e ∙ ap (followed (done fold.out)) (still-open text f.macros fold.branches b)))
-    ∙ stops fold.out.list fold.out.uses (Unbalanced (length text))
+    subst (λ r. Stops r (Unbalanced (length text)))
+    (sym (f.same ∙ (ap (λ l. followed (done fold.out) (reading_from text 0 f.macros (top_first fold.branches) l)) e ∙ ap (followed (done fold.out)) (still-open text f.macros fold.branches b))))
+    (stops fold.out (Unbalanced (length text)))

@@ -7,7 +7,7 @@ use Rattle.lv_ast.specs.declared.tokens.Token.{Token}
 use Rattle.lv_lexer.specs.declared.error.DirectiveError.{DirectiveError}
 use Rattle.lv_lexer.specs.declared.error.DirectiveError.TheVariants.{UnknownMacro, Unbalanced, Malformed, Depth, TooMany, NoMemory}
 use Rattle.lv_lexer.specs.declared.output.Output.{Output}
-use Rattle.lv_lexer.specs.Readings.{done, used, Reads, IsFoldRefusal}
+use Rattle.lv_lexer.specs.Readings.{done, used, Reads, Stops, IsFoldRefusal, IsFoldAnswer, IsFoldRefusalOfMany}
 
 abbrev pub so_far : List Token → ℕ → Reading
 so_far l u = record { tokens = l; uses = u; stop = None }
@@ -72,11 +72,11 @@ unfolding followed
 counts-parts t u (Some s) b = omega arith
 counts-parts t u None b = let e : length (t ++ b.tokens) ≡ length t + length b.tokens = length-append t b.tokens in omega (arith, e)
 
-stop-stays : (a b : Reading) (x : Stop) → a.stop ≡ Some x → (followed a b).stop ≡ Some x
-stop-stays a b x h = ap (λ r. r.stop) (stays a b x h) ∙ h
+stop-stays : (a b : Reading) (x : Stop) → Stops a x → Stops (followed a b) x
+stop-stays a b x h = subst (λ r. Stops r x) (sym (stays a b x h.0)) h
 
 -- a refusal stays one
-pub refusal_stays : (a b : Reading) (e : DirectiveError) → IsFoldRefusal a e → IsFoldRefusal (followed a b) e
+pub refusal_stays : (a b : Reading) (e : DirectiveError) → IsFoldAnswer a e → IsFoldAnswer (followed a b) e
 refusal_stays a b (UnknownMacro p) h = stop-stays a b _ h
 refusal_stays a b (Unbalanced p) h = stop-stays a b _ h
 refusal_stays a b (Malformed p) h = stop-stays a b _ h
@@ -89,7 +89,43 @@ refusal_stays a b NoMemory h = tt
 pub reads_then : {T : Type 0} (o p n : Output) (a b : Reading) (r : Result T DirectiveError) → followed (done o) a ≡ done p → Reads p b r n → Reads o (followed a b) r n
 reads_then o p n a b r h k =
     let e : followed (done p) b ≡ followed (done o) (followed a b) = ap (λ x. followed x b) (sym h) ∙ followed_assoc (done o) a b in
-    subst (λ x. MatchResult r (λ _. x ≡ done n) (IsFoldRefusal x)) e k
+    subst (λ x. MatchResult r (λ _. x ≡ done n) (IsFoldAnswer x)) e k
 
-pub refused_first : (o : Output) (a b : Reading) (e : DirectiveError) → IsFoldRefusal (followed (done o) a) e → IsFoldRefusal (followed (done o) (followed a b)) e
-refused_first o a b e h = subst (λ x. IsFoldRefusal x e) (followed_assoc (done o) a b) (refusal_stays (followed (done o) a) b e h)
+pub refused_first : (o : Output) (a b : Reading) (e : DirectiveError) → IsFoldAnswer (followed (done o) a) e → IsFoldAnswer (followed (done o) (followed a b)) e
+refused_first o a b e h = subst (λ x. IsFoldAnswer x e) (followed_assoc (done o) a b) (refusal_stays (followed (done o) a) b e h)
+
+-- ---- what was read whole
+
+unstopped : (r : Reading) (s : Stop) → r.stop ≡ None → r.stop ≡ Some s → ⊥
+unstopped r s n h = none-some s (sym n ∙ h)
+
+-- no refusal but want of memory has its cause
+pub no_fold_refusal : (r : Reading) → r.stop ≡ None → counted r ≤ 500000 → (e : DirectiveError) → IsFoldRefusal r e → e ≡ NoMemory
+no_fold_refusal r n l (UnknownMacro p) h = absurd (unstopped r _ n h)
+no_fold_refusal r n l (Unbalanced p) h = absurd (unstopped r _ n h)
+no_fold_refusal r n l (Malformed p) h = absurd (unstopped r _ n h)
+no_fold_refusal r n l (Depth p) h = absurd (unstopped r _ n h)
+no_fold_refusal r n l (TooMany m) h = let k : 500000 < counted r = h.1 in absurd (omega (arith, k, l))
+no_fold_refusal r n l NoMemory h = refl
+
+-- ---- the refusal that a reading comes to
+
+pub answer_refusal : (r : Reading) (e : DirectiveError) → IsFoldAnswer r e → IsFoldRefusal r e
+answer_refusal r (UnknownMacro p) h = h.0
+answer_refusal r (Unbalanced p) h = h.0
+answer_refusal r (Malformed p) h = h.0
+answer_refusal r (Depth p) h = h.0
+answer_refusal r (TooMany n) h = h
+answer_refusal r NoMemory h = tt
+
+not-many : (r : Reading) (s : Stop) → Stops r s → 500000 < counted r → ⊥
+not-many r s h m = let k : counted r ≤ 500000 = h.1 in omega (arith, k, m)
+
+-- where the limit is passed, it is the limit
+pub answer_many : (r : Reading) (e : DirectiveError) → 500000 < counted r → IsFoldAnswer r e → IsFoldRefusalOfMany e
+answer_many r (UnknownMacro p) m h = not-many r _ h m
+answer_many r (Unbalanced p) m h = not-many r _ h m
+answer_many r (Malformed p) m h = not-many r _ h m
+answer_many r (Depth p) m h = not-many r _ h m
+answer_many r (TooMany n) m h = h.0
+answer_many r NoMemory m h = tt

@@ -10,6 +10,7 @@ pub mod Lines
 pub mod Literals
 pub mod Longest
 pub mod Marks
+pub mod Refused
 pub mod Stands
 pub mod StepLaws
 pub mod Tables

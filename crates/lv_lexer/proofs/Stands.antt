@@ -23,9 +23,9 @@ module _ (text : List ℕ) where
   tokens-gap p [] q h n g = gap-more h n g
   tokens-gap p (t ∷ ts) q h n g = (h.0, h.1, tokens-gap t.end ts q h.2 n g)
 
-  tokens-push : (p : ℕ) (ts : List Token) (q : ℕ) → AreTokensFrom text p ts q → (t : Token) → q ≡ t.start → IsTokenAt text t → AreTokensFrom text p (ts ++ t ∷ []) t.end
-  tokens-push p [] q h t e k = (subst (IsGap text p) e h, k, lists.none refl)
-  tokens-push p (u ∷ ts) q h t e k = (h.0, h.1, tokens-push u.end ts q h.2 t e k)
+  pub tokens_push : (p : ℕ) (ts : List Token) (q : ℕ) → AreTokensFrom text p ts q → (t : Token) → q ≡ t.start → IsTokenAt text t → AreTokensFrom text p (ts ++ t ∷ []) t.end
+  tokens_push p [] q h t e k = (subst (IsGap text p) e h, k, lists.none refl)
+  tokens_push p (u ∷ ts) q h t e k = (h.0, h.1, tokens_push u.end ts q h.2 t e k)
 
 -- ---- how long white space and comments are
 
@@ -125,7 +125,7 @@ token-whole text t h l f =
 
 pub stand_token : (text : List ℕ) (ts : List Token) (t : Token) → Stand text ts t.start → IsTokenAt text t → t.start ≤ length text → fits t.kind (token_bytes text t) ≡ true → length ts < 500000 → Stand text (ts ++ t ∷ []) t.end
 stand_token text ts t h k l f n = record {
-  list = tokens-push text 0 ts t.start h.list t refl k;
+  list = tokens_push text 0 ts t.start h.list t refl k;
   whole = list_all-append (is_token text) ts (t ∷ []) ∙ (ap (λ b. b && (is_token text t && true)) h.whole ∙ ap (λ b. b && true) (token-whole text t k l f));
   few = let e : length (ts ++ t ∷ []) ≡ length ts + 1 = length-append ts (t ∷ []) in omega (arith, e, n);
 }
@@ -134,7 +134,7 @@ pub begins_more : (text : List ℕ) (ts : List Token) (t : Token) → Stand text
 begins_more text ts t h k n = record {
   tokens = ts ++ t ∷ [];
   place = t.end;
-  stand = tokens-push text 0 ts t.start h.list t refl k;
+  stand = tokens_push text 0 ts t.start h.list t refl k;
   many = let e : length (ts ++ t ∷ []) ≡ length ts + 1 = length-append ts (t ∷ []) in omega (arith, e, n);
 }
 

@@ -8,7 +8,7 @@ use Rattle.lv_lexer.specs.declared.folds.Branch.{Branch}
 use Rattle.lv_lexer.specs.declared.folds.Fold.{Fold}
 use Rattle.lv_lexer.specs.declared.macros.Macros.{Macros}
 use Rattle.lv_lexer.specs.declared.output.Output.{Output}
-use Rattle.lv_lexer.specs.Readings.{done}
+use Rattle.lv_lexer.specs.Readings.{done, Stops}
 use Rattle.lv_lexer.specs.Shown.{top_first, branch_shown}
 use Rattle.lv_lexer.specs.Steps.{Stepped}
 use Rattle.lv_lexer.specs.Tables.{Keeps, body_in}
@@ -17,8 +17,8 @@ use Rattle.lv_lexer.proofs.Expansions.{stops}
 use Rattle.lv_lexer.proofs.Followed.{followed_nothing}
 use Rattle.lv_lexer.proofs.Tables.{body-cons, body_without}
 
-pub stops_at : (o : Output) (r : Reading) (s : Stop) → r ≡ stopped s → (followed (done o) r).stop ≡ Some s
-stops_at o r s h = ap (λ r. (followed (done o) r).stop) h ∙ stops o.list o.uses s
+pub stops_at : (o : Output) (r : Reading) (s : Stop) → r ≡ stopped s → Stops (followed (done o) r) s
+stops_at o r s h = subst (λ r. Stops (followed (done o) r) s) (sym h) (stops o s)
 
 pub keeps_define : (old new : Macros) (ms : List Macro) (name : List ℕ) (a b : List Token) → ((q : List ℕ) → body_in new q ≡ (if bytes_eq name q then Some a else body_in old q)) → a ≡ b → Keeps old ms → Keeps new (record { name = name; body = b } ∷ ms)
 keeps_define old new ms name a b h e k q =

@@ -17,3 +17,11 @@ IsLexRefusal text (BadLiteral p) = IsBadLiteral text p
 IsLexRefusal text (Unclosed p) = IsUnclosed text p
 IsLexRefusal text (TooMany n) = (n ≡ 500001) × BeginsWithMore 500000 text
 IsLexRefusal text NoMemory = Unit {0}
+
+-- what a text that begins with more tokens than the limit may be refused as
+abbrev pub IsRefusalOfMany : LexError → Type 0
+IsRefusalOfMany (BadByte p) = ⊥
+IsRefusalOfMany (BadLiteral p) = Unit {0}
+IsRefusalOfMany (Unclosed p) = ⊥
+IsRefusalOfMany (TooMany n) = n ≡ 500001
+IsRefusalOfMany NoMemory = Unit {0}

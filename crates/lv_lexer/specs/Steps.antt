@@ -7,7 +7,7 @@ use Rattle.lv_lexer.specs.declared.error.DirectiveError.{DirectiveError}
 use Rattle.lv_lexer.specs.declared.folds.Directive.{Directive}
 use Rattle.lv_lexer.specs.declared.folds.Directive.TheVariants.{Define, Undef, Ifdef, Ifndef, Use, Dropped}
 use Rattle.lv_lexer.specs.declared.folds.Fold.{Fold}
-use Rattle.lv_lexer.specs.Readings.{done, IsFoldRefusal}
+use Rattle.lv_lexer.specs.Readings.{done, IsFoldAnswer}
 use Rattle.lv_lexer.specs.Shown.{top_first}
 use Rattle.lv_lexer.specs.Tables.{Keeps}
 
@@ -19,7 +19,7 @@ pub record Stepped (old new : Fold) (s : Step) (count : ℕ) : Type 0 where
 
 -- the step, or why it is refused
 abbrev pub Steps : Fold → Step → Result ℕ DirectiveError → Fold → Type 0
-Steps old s result new = MatchResult result (Stepped old new s) (IsFoldRefusal (followed (done old.out) s.reading))
+Steps old s result new = MatchResult result (Stepped old new s) (IsFoldAnswer (followed (done old.out) s.reading))
 
 -- with the name on the line
 abbrev pub named_step : List ℕ → List Macro → List folds.Branch → Token → List Token → (List ℕ → Step) → Step

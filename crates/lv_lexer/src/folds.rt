@@ -1,9 +1,9 @@
-ghost use Rattle.std.specs.Prelude.{◌≡◌, ◌≤◌, [], ◌∷◌, ◌++◌, List, IfOk, OnOk, IfErr, MatchOption, is_some, not, ◌||◌, drop, if◌then◌else◌};
+ghost use Rattle.std.specs.Prelude.{◌≡◌, ◌<◌, ◌≤◌, [], ◌∷◌, ◌++◌, List, IfOk, OnOk, IfErr, IsErrAnd, MatchOption, is_some, not, ◌||◌, drop, if◌then◌else◌};
 ghost use Rattle.std.specs.List.{list_any};
 ghost use Rattle.std.specs.Str.{bytes_eq};
 ghost use Rattle.lv_ast.specs.Folds as spec;
 ghost use Rattle.lv_ast.specs.Folds.{Macro};
-ghost use Rattle.lv_lexer.specs.Readings.{Reads, IsFoldRefusal, done};
+ghost use Rattle.lv_lexer.specs.Readings.{Reads, IsFoldAnswer, IsFoldRefusal, IsFoldRefusalOfMany, done};
 ghost use Rattle.lv_lexer.specs.Shown.{branch_shown, directive_shown};
 ghost use Rattle.lv_lexer.specs.Tables.{Keeps};
 
@@ -557,7 +557,7 @@ fn skip(list: &[Token], n: usize) -> &[Token]
 
 fn fold_list(alloc: Global, text: &[u8], list: &[Token]) -> Result<Output, DirectiveError>
     ensures ok { IfOk result (λ out. spec.reading_of text.now list.now ≡ done out) }
-    ensures err { IfErr result (IsFoldRefusal (spec.reading_of text.now list.now)) }
+    ensures err { IfErr result (IsFoldAnswer (spec.reading_of text.now list.now)) }
 {
     let mut fold = Fold {
         macros: Macros::new(alloc),
@@ -583,13 +583,16 @@ fn fold_list(alloc: Global, text: &[u8], list: &[Token]) -> Result<Output, Direc
 /// What the directives make of a token list (IEEE 1364-2005, section 19): the tokens that are kept, with the uses of
 /// macros expanded. A refusal speaks of what is read, with the definitions that then stand, at the place of the tick of
 /// its directive or use, or at the text's length for a conditional that is still open; `TooMany` carries the first
-/// number above the limit of tokens given and uses made.
+/// number above the limit of tokens given and uses made, and comes wherever that limit is passed before another
+/// refusal.
 pub fn directives(alloc: Global, tokens: Tokens) -> Result<Tokens, DirectiveError>
     ensures text { IfOk result (λ folded. folded.text ≡ tokens.text) }
     ensures list { IfOk result (λ folded. folded.list ≡ (spec.reading_of tokens.text tokens.list).tokens) }
     ensures unstopped { OnOk result ((spec.reading_of tokens.text tokens.list).stop ≡ None) }
     ensures few { OnOk result (spec.counted (spec.reading_of tokens.text tokens.list) ≤ 500000) }
     ensures refused { IfErr result (IsFoldRefusal (spec.reading_of tokens.text tokens.list)) }
+    ensures unrefused { OnOk result ((e : DirectiveError) → IsFoldRefusal (spec.reading_of tokens.text tokens.list) e → e ≡ DirectiveError.NoMemory) }
+    ensures many { 500000 < spec.counted (spec.reading_of tokens.text tokens.list) → IsErrAnd result IsFoldRefusalOfMany }
 {
     let out = fold_list(alloc, tokens.text.bytes(), tokens.list.as_slice())?;
     let list = out.into_list();

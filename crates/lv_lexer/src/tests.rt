@@ -1,5 +1,6 @@
 use crate::spans::token_bytes;
 use crate::{DirectiveError, LexError, directives, lex};
+use lv_ast::Kind::{Based, Escaped, Join, Line, Mark, Name, Number, System, Tick, Word};
 use lv_ast::{Kind, Token};
 use std::alloc::{AllocError, Global};
 use std::process::Abort;
@@ -26,95 +27,75 @@ fn refuses(rt: &impl Abort, alloc: Global, text: &[u8], expected: LexError) {
     }
 }
 
-#[test]
-fn reads_tokens(rt: HostRuntime) -> Result<(), Fail> {
-    use Kind::{Based, Escaped, Join, Line, Mark, Name, Number, System, Tick, Word};
-    let alloc = rt.alloc();
-    reads(&rt, alloc, b"", &[]);
-    reads(
-        &rt,
-        alloc,
-        b"a&&b",
-        &[(Name, 0, 1), (Mark, 1, 3), (Name, 3, 4)],
-    );
-    reads(&rt, alloc, b">>>", &[(Mark, 0, 3)]);
-    reads(&rt, alloc, b"<<<<", &[(Mark, 0, 3), (Mark, 3, 4)]);
-    reads(
-        &rt,
-        alloc,
+type Row = (&'static [u8], &'static [(Kind, u64, u64)]);
+
+const MARKS: [Row; 5] = [
+    (b"a&&b", &[(Name, 0, 1), (Mark, 1, 3), (Name, 3, 4)]),
+    (b">>>", &[(Mark, 0, 3)]),
+    (b"<<<<", &[(Mark, 0, 3), (Mark, 3, 4)]),
+    (
         b"+:-:~^^~",
         &[(Mark, 0, 2), (Mark, 2, 4), (Mark, 4, 6), (Mark, 6, 8)],
-    );
-    reads(
-        &rt,
-        alloc,
+    ),
+    (
         b"(*===",
         &[(Mark, 0, 1), (Mark, 1, 2), (Mark, 2, 4), (Mark, 4, 5)],
-    );
-    reads(
-        &rt,
-        alloc,
+    ),
+];
+
+const NAMES: [Row; 3] = [
+    (
         b"wire wires Wire",
         &[(Word, 0, 4), (Name, 5, 10), (Name, 11, 15)],
-    );
-    reads(
-        &rt,
-        alloc,
+    ),
+    (
         b"_a$1 $signed `x",
         &[(Name, 0, 4), (System, 5, 12), (Tick, 13, 15)],
-    );
-    reads(
-        &rt,
-        alloc,
+    ),
+    (
         b"\\a//b \\wire\n",
         &[(Escaped, 0, 5), (Escaped, 6, 11), (Line, 11, 12)],
-    );
-    reads(&rt, alloc, b"4'b1?z0", &[(Number, 0, 1), (Based, 1, 7)]);
-    reads(
-        &rt,
-        alloc,
+    ),
+];
+
+const LITERALS: [Row; 6] = [
+    (b"4'b1?z0", &[(Number, 0, 1), (Based, 1, 7)]),
+    (
         b"'d12 8 'h ff",
         &[(Based, 0, 4), (Number, 5, 6), (Based, 7, 12)],
-    );
-    reads(&rt, alloc, b"'sb1 'SO?7", &[(Based, 0, 4), (Based, 5, 10)]);
-    reads(
-        &rt,
-        alloc,
+    ),
+    (b"'sb1 'SO?7", &[(Based, 0, 4), (Based, 5, 10)]),
+    (
         b"12_3'd1_2 3",
         &[(Number, 0, 4), (Based, 4, 9), (Number, 10, 11)],
-    );
-    reads(
-        &rt,
-        alloc,
-        b"a//b\n/*c\n*/d",
-        &[(Name, 0, 1), (Line, 4, 5), (Name, 11, 12)],
-    );
-    reads(&rt, alloc, b"a//b", &[(Name, 0, 1)]);
-    reads(&rt, alloc, b"/**/ /***/ /*/ */", &[]);
-    reads(
-        &rt,
-        alloc,
-        b"a\\\nb",
-        &[(Name, 0, 1), (Join, 1, 3), (Name, 3, 4)],
-    );
-    reads(
-        &rt,
-        alloc,
-        b"a\\\r\nb",
-        &[(Name, 0, 1), (Join, 1, 4), (Name, 4, 5)],
-    );
-    reads(
-        &rt,
-        alloc,
+    ),
+    (
         b"340282366920938463463374607431768211455",
         &[(Number, 0, 39)],
-    );
-    reads(
-        &rt,
-        alloc,
-        b"'hffffffffffffffffffffffffffffffff",
-        &[(Based, 0, 34)],
-    );
+    ),
+    (b"'hffffffffffffffffffffffffffffffff", &[(Based, 0, 34)]),
+];
+
+const LINES: [Row; 6] = [
+    (b"", &[]),
+    (
+        b"a//b\n/*c\n*/d",
+        &[(Name, 0, 1), (Line, 4, 5), (Name, 11, 12)],
+    ),
+    (b"a//b", &[(Name, 0, 1)]),
+    (b"/**/ /***/ /*/ */", &[]),
+    (b"a\\\nb", &[(Name, 0, 1), (Join, 1, 3), (Name, 3, 4)]),
+    (b"a\\\r\nb", &[(Name, 0, 1), (Join, 1, 4), (Name, 4, 5)]),
+];
+
+#[test]
+fn reads_tokens(rt: HostRuntime) -> Result<(), Fail> {
+    let alloc = rt.alloc();
+    for rows in [&MARKS[..], &NAMES[..], &LITERALS[..], &LINES[..]] {
+        for (text, expected) in rows {
+            reads(&rt, alloc, text, expected);
+        }
+    }
     Ok(())
 }
 
@@ -195,56 +176,63 @@ fn fold_refuses(
     }
 }
 
+// Texts, and what the directives leave of them.
+const MACROS: [(&[u8], &[u8]); 10] = [
+    (b"a\nb \\\n c // d\n", b"a b c "),
+    (b"`define X q ^ d\n`X; // sum\n", b"q ^ d ; "),
+    (b"`define X a \\\n b\n`X `X", b"a b a b "),
+    (b"`define X\n[`X]", b"[ ] "),
+    (b"`define X (a)\n`X", b"( a ) "),
+    (b"`define X 1\n`define X 2\n`X", b"2 "),
+    (b"`define X 1\n`define Y `X 3\n`define X 2\n`Y", b"2 3 "),
+    (b"`define \\\n X \\\r\n 3\n`X", b"3 "),
+    (b"`define wire 1\n`wire", b"1 "),
+    (b"`define X 1", b""),
+];
+
+const CONDITIONALS: [(&[u8], &[u8]); 9] = [
+    (
+        b"`define X 1\n`undef X\n`undef Y\n`ifdef X a `else b `endif",
+        b"b ",
+    ),
+    (b"`ifndef X a `elsif Y b `else c `endif d", b"a d "),
+    (
+        b"`define Y\n`ifdef X a `elsif Y b `elsif Y c `else d `endif",
+        b"b ",
+    ),
+    (b"`ifdef X a `elsif Y b `else c `endif", b"c "),
+    (
+        b"`ifdef X `ifdef Y a `else b `endif `unknown `define Z `else\n c `endif",
+        b"c ",
+    ),
+    (b"`ifdef X `ifndef Y a `endif `endif d", b"d "),
+    (
+        b"`define X\n`ifdef X `ifdef Y a `else b `endif `else c `endif",
+        b"b ",
+    ),
+    (
+        b"`timescale 1/1 foo\na `default_nettype none\n`resetall\nb",
+        b"a b ",
+    ),
+    (b"`ifdef \\\n X a `else b `endif", b"b "),
+];
+
 #[test]
 fn folds_directives(rt: HostRuntime) -> Result<(), Fail> {
     let alloc = rt.alloc();
-    let rows: [(&[u8], &[u8]); 19] = [
-        (b"a\nb \\\n c // d\n", b"a b c "),
-        (b"`define X q ^ d\n`X; // sum\n", b"q ^ d ; "),
-        (b"`define X a \\\n b\n`X `X", b"a b a b "),
-        (b"`define X\n[`X]", b"[ ] "),
-        (b"`define X (a)\n`X", b"( a ) "),
-        (b"`define X 1\n`define X 2\n`X", b"2 "),
-        (b"`define X 1\n`define Y `X 3\n`define X 2\n`Y", b"2 3 "),
-        (
-            b"`define X 1\n`undef X\n`undef Y\n`ifdef X a `else b `endif",
-            b"b ",
-        ),
-        (b"`ifndef X a `elsif Y b `else c `endif d", b"a d "),
-        (
-            b"`define Y\n`ifdef X a `elsif Y b `elsif Y c `else d `endif",
-            b"b ",
-        ),
-        (b"`ifdef X a `elsif Y b `else c `endif", b"c "),
-        (
-            b"`ifdef X `ifdef Y a `else b `endif `unknown `define Z `else\n c `endif",
-            b"c ",
-        ),
-        (b"`ifdef X `ifndef Y a `endif `endif d", b"d "),
-        (
-            b"`define X\n`ifdef X `ifdef Y a `else b `endif `else c `endif",
-            b"b ",
-        ),
-        (
-            b"`timescale 1/1 foo\na `default_nettype none\n`resetall\nb",
-            b"a b ",
-        ),
-        (b"`ifdef \\\n X a `else b `endif", b"b "),
-        (b"`define \\\n X \\\r\n 3\n`X", b"3 "),
-        (b"`define wire 1\n`wire", b"1 "),
-        (b"`define X 1", b""),
-    ];
-    for (text, expected) in rows {
-        folds(&rt, alloc, text, expected)?;
+    for rows in [&MACROS[..], &CONDITIONALS[..]] {
+        for (text, expected) in rows {
+            folds(&rt, alloc, text, expected)?;
+        }
     }
     Ok(())
 }
 
 #[test]
 fn refuses_directives(rt: HostRuntime) -> Result<(), Fail> {
-    use DirectiveError::{Malformed, TooMany, Unbalanced, UnknownMacro};
+    use DirectiveError::{Malformed, Unbalanced, UnknownMacro};
     let alloc = rt.alloc();
-    let rows: [(&[u8], DirectiveError); 18] = [
+    let rows: [(&[u8], DirectiveError); 17] = [
         (b"a `X", UnknownMacro(2)),
         (b"`define X `Y\n `X", UnknownMacro(10)),
         (b"`define X 1\n`undef X\n`X", UnknownMacro(21)),
@@ -262,10 +250,6 @@ fn refuses_directives(rt: HostRuntime) -> Result<(), Fail> {
         (b"`define X `ifdef Y\n", Malformed(0)),
         (b"`undef \\X ", Malformed(0)),
         (b"`define X `X `X\n`X", DirectiveError::Depth(10)),
-        (
-            b"`define a ;\n`define b `a`a`a`a`a`a`a`a`a`a\n`define c `b`b`b`b`b`b`b`b`b`b\n`define d `c`c`c`c`c`c`c`c`c`c\n`define e `d`d`d`d`d`d`d`d`d`d\n`define f `e`e`e`e`e`e`e`e`e`e\n`define g `f`f`f`f`f`f`f`f`f`f\n`g",
-            TooMany(500_001),
-        ),
     ];
     for (text, expected) in rows {
         fold_refuses(&rt, alloc, text, expected)?;
@@ -273,33 +257,49 @@ fn refuses_directives(rt: HostRuntime) -> Result<(), Fail> {
     Ok(())
 }
 
-// Macros m, mm and so on, each but the first with a use of the one before, and a use of the last.
-fn chain(alloc: Global, count: usize) -> Result<Vec<u8>, AllocError> {
+fn name(text: &mut Vec<u8>, length: usize) -> Result<(), AllocError> {
+    for _ in 0..length {
+        text.push(b'm')?;
+    }
+    Ok(())
+}
+
+// Macros m, mm and so on: the first gives `;`, each other one so many uses of the one before. At the end a use of the
+// last.
+fn chain(alloc: Global, count: usize, uses: usize) -> Result<Vec<u8>, AllocError> {
     let mut text = Vec::new(alloc);
     for n in 1..=count {
         text.extend_from_slice(b"`define ")?;
-        for _ in 0..n {
-            text.push(b'm')?;
-        }
+        name(&mut text, n)?;
         text.push(b' ')?;
-        text.push(if n == 1 { b';' } else { b'`' })?;
-        for _ in 1..n {
-            text.push(b'm')?;
+        if n == 1 {
+            text.push(b';')?;
+        } else {
+            for _ in 0..uses {
+                text.push(b'`')?;
+                name(&mut text, n - 1)?;
+            }
         }
         text.push(b'\n')?;
     }
     text.push(b'`')?;
-    for _ in 0..count {
-        text.push(b'm')?;
-    }
+    name(&mut text, count)?;
     Ok(text)
 }
 
 #[test]
 fn nests_uses(rt: HostRuntime) -> Result<(), Fail> {
     let alloc = rt.alloc();
-    let deep = chain(alloc, 64)?;
+    let deep = chain(alloc, 64, 1)?;
     folds(&rt, alloc, &deep, b"; ")?;
-    let deeper = chain(alloc, 65)?;
+    let deeper = chain(alloc, 65, 1)?;
     fold_refuses(&rt, alloc, &deeper, DirectiveError::Depth(23))
+}
+
+// The limit ends it: the last macro would give 2 ^ 30 tokens.
+#[test]
+fn doubles_macros(rt: HostRuntime) -> Result<(), Fail> {
+    let alloc = rt.alloc();
+    let doubled = chain(alloc, 31, 2)?;
+    fold_refuses(&rt, alloc, &doubled, DirectiveError::TooMany(500_001))
 }

@@ -1,7 +1,7 @@
 use Rattle.std.proofs.Common.{◌-◌, ◌+◌, sym, ap, ◌∙◌, arith, subst, drop}
 use Rattle.std.proofs.lemmas.Result.{err_from_is_err_and}
 use Rattle.lv_ast.specs.Folds.{in_order, expansion, followed, body_of}
-use Rattle.lv_lexer.specs.Readings.{done, used, Reads, IsFoldRefusal}
+use Rattle.lv_lexer.specs.Readings.{done, used, Reads, IsFoldAnswer}
 use Rattle.lv_lexer.proofs.Followed.{reads_then, refused_first, followed_assoc}
 use Rattle.lv_lexer.proofs.Lines.{token_at}
 use Rattle.lv_lexer.proofs.Expansions.{expands_plain, expands_too_deep, expands_unknown, expands_body, order_at, order_end}
@@ -18,7 +18,7 @@ pub expand-returns-in_err-count_use-in-Some : goal.expand-returns-in_err-count_u
 expand-returns-in_err-count_use-in-Some t c =
     let p = err_from_is_err_and c.from_residual.result c.from_residual.ensures.1 in
     rw (p.1, p.2) (λ ms k.
-    subst (λ r. IsFoldRefusal (followed (done c.args.out.now) r) c.in_err-count_use-in-Some.field-0.0)
+    subst (λ r. IsFoldAnswer (followed (done c.args.out.now) r) c.in_err-count_use-in-Some.field-0.0)
     (expands_body c.args.text.now ms c.args.nested c.args.token c.in-Some.body.now c.if-nested-eq0.false (sym c.is_tick.ensures ∙ c.if-not-is_tick.false) (c.in-Some.ensures ∙ (k c.word.result.now ∙ ap (body_of ms) c.word.ensures)))
     (refused_first c.args.out.now used (in_order (expansion c.args.text.now ms (c.args.nested - 1)) c.in-Some.body.now) c.in_err-count_use-in-Some.field-0.0 c.in_err-count_use-in-Some.ensures))
 
@@ -43,7 +43,7 @@ expand_body-returns-in_err-expand t c =
     let i = c.loop-token.token-index in
     let body = c.args.body.now in
     let e = c.in_err-expand.field-0.0 in
-    subst (λ x. IsFoldRefusal x e) (ap (followed (done c.loop-token.out)) (order_at f body i c.loop-token-test.true) ∙ sym (c.loop-token.invariant ms k))
+    subst (λ x. IsFoldAnswer x e) (ap (followed (done c.loop-token.out)) (order_at f body i c.loop-token-test.true) ∙ sym (c.loop-token.invariant ms k))
     (refused_first c.loop-token.out (f (token_at body i)) (in_order f (drop (i + 1) body)) e (c.in_err-expand.ensures ms k)))
 
 pub expand_body-loop-token-preserved : goal.expand_body-loop-token-preserved

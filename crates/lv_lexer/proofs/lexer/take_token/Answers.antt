@@ -12,4 +12,5 @@ returns-in-Ok c =
     record {
       ok = subst (λ l. Stand c.args.bytes.now l c.args.token.end) (sym c.in-Ok.ensures.ok) (stand_token c.args.bytes.now c.args.list.now c.args.token c.requires.stand c.requires.token c.requires.within c.requires.fits (omega (arith, few)));
       err = tt;
+      many = λ _. tt;
     }

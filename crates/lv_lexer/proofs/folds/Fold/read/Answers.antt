@@ -1,5 +1,5 @@
 use Rattle.std.proofs.Common.{refl, sym, subst, ◌∙◌, true, false}
-use Rattle.lv_lexer.specs.Readings.{done, IsFoldRefusal}
+use Rattle.lv_lexer.specs.Readings.{done, IsFoldAnswer}
 use Rattle.lv_ast.specs.Folds.{followed}
 use Rattle.lv_lexer.specs.Shown.{top_first}
 use Rattle.lv_lexer.specs.Steps.{Steps, Stepped}
@@ -25,6 +25,6 @@ returns-in-Ok c = λ ms k.
 
 pub returns-in-Err : goal.returns-in-Err
 returns-in-Err c = λ ms k.
-    subst (λ s. IsFoldRefusal (followed (done c.args.self.now.out) s.reading) c.in-Err.error)
+    subst (λ s. IsFoldAnswer (followed (done c.args.self.now.out) s.reading) c.in-Err.error)
     (sym (step_if c.args.text.now ms (top_first c.args.self.now.branches) c.args.token c.args.after.now false false (sym c.is_tick.ensures ∙ c.if-is_tick.false) (sym c.passes.ensures ∙ c.if-passes.false)))
     c.in-Err.ensures

@@ -6,15 +6,18 @@ use Rattle.lv_io.specs.declared.shelf.ShelfError.{ShelfError}
 use Rattle.lv_io.specs.declared.shelf.ShelfError.TheVariants as s
 use Rattle.lv_io.specs.Causes.{Rose}
 use Rattle.lv_io.specs.Files.{Files, HoldsFile, IsAbsent, IsLonger}
+use Rattle.lv_ast.specs.declared.tokens.Token.{Token}
 use Rattle.lv_ast.specs.declared.item.Module.{Module}
 use Rattle.leave.specs.declared.answer.Answer.{Answer}
 use Rattle.leave.specs.declared.answer.Answer.TheVariants as a
 use Rattle.leave.specs.declared.contract_file.ContractTexts.{ContractTexts}
 use Rattle.leave.specs.declared.observed.ObserverTrees.{ObserverTrees}
 use Rattle.leave.specs.ContractFile.{IsContractFile}
-use Rattle.leave.specs.Texts.{IsDesignText}
+use Rattle.lv_ast.specs.Folds.{Stop, UnknownMacro, Unbalanced, Malformed, Depth}
+use Rattle.leave.specs.Spelling.{IsModuleOf}
+use Rattle.leave.specs.Texts.{IsFolded, IsDesignText, IsTextRefusal, bad_byte, bad_literal, unclosed, many_tokens, stopped, many_uses, stop_answer}
 use Rattle.leave.specs.FirstForm.{IsLegal, AreObservers}
-use Rattle.leave.specs.Answers.{AsksFor, IsCommandLine, AreTextsOf, IsTask, Outside, IsReadName, contract, design, IsAnswer, accepted, unproved, usage, missing, overlong, unbuilt, fault, no_memory, IsVerdict, proved, unproved_one, not_of_form, IsJudged, judged, unread, IsCause, Goes, IsRefusal, is_missing, is_long, is_fault, is_memory, IsReported, told, cut, unwritten, Reports, IsVerifiedFile, IsUnprovedFile, HasFault, code_of}
+use Rattle.leave.specs.Answers.{AsksFor, IsCommandLine, AreTextsOf, IsTask, Outside, IsReadName, contract, design, HoldsText, IsUnbuilt, behind_directives, IsAnswer, accepted, unproved, usage, missing, overlong, unread, unbuilt, fault, no_memory, IsVerdict, proved, unproved_one, not_of_form, IsSpelled, spelled, not_spelled, IsJudged, judged, not_folded, unjudged, IsCause, Goes, IsRefusal, is_missing, is_long, is_fault, is_memory, IsReported, told, cut, unwritten, Reports, IsVerifiedFile, IsUnprovedFile, HasFault, code_of}
 
 abbrev pub line_of : (words : List (List ℕ)) (file : List ℕ) → AsksFor words file → IsCommandLine words
 line_of words file asks = record { file = file; asks = asks }
@@ -54,15 +57,42 @@ told_task (Some files) file bytes source texts m c h g contract_is design_is tre
   observers = legal.1;
 }
 
-pub judged_is : (words : List (List ℕ)) (before after : Outside) (file bytes source : List ℕ) (texts : ContractTexts) (c : ObserverTrees) (answer : Answer) →
-    AsksFor words file → HoldsFile file bytes before.files → HoldsFile texts.file source before.files → IsContractFile bytes texts → AreTextsOf texts c →
-    IsJudged texts source c answer → IsAnswer words before after answer
-judged_is words before after file bytes source texts c answer asks h g contract_is trees (unread e) = subst (IsAnswer words before after) (sym e) (unbuilt (line_of words file asks))
-judged_is words before after file bytes source texts c _ asks h g contract_is trees (judged m text (proved legal observers verdict)) =
-    accepted (line_of words file asks) texts m c (told_task before.files file bytes source texts m c h g contract_is text trees (legal, observers)) verdict
-judged_is words before after file bytes source texts c _ asks h g contract_is trees (judged m text (unproved_one legal observers no_list)) =
-    unproved (line_of words file asks) texts m c (told_task before.files file bytes source texts m c h g contract_is text trees (legal, observers)) no_list
-judged_is words before after file bytes source texts c _ asks h g contract_is trees (judged m text not_of_form) = unbuilt (line_of words file asks)
+abbrev holds_text : (files : Option Files) (file bytes source : List ℕ) (texts : ContractTexts) →
+    HoldsFile file bytes files → HoldsFile texts.file source files → IsContractFile bytes texts → HoldsText files file source
+holds_text files file bytes source texts h g contract_is = record {
+  contract_bytes = bytes;
+  contract_held = h;
+  texts = texts;
+  contract = contract_is;
+  design_bytes = source;
+  design_held = g;
+  joined = refl;
+}
+
+abbrev design_text : (text : List ℕ) (folded : List Token) (m : Module) → IsFolded text folded → IsModuleOf text folded m → IsDesignText text m
+design_text text folded m folds h = record { folded = folded; folds = folds; spelled = h }
+
+spelled_is : (words : List (List ℕ)) (before after : Outside) (file bytes source : List ℕ) (texts : ContractTexts) (folded : List Token) (answer : Answer) →
+    AsksFor words file → HoldsFile file bytes before.files → HoldsFile texts.file source before.files → IsContractFile bytes texts →
+    IsFolded source folded → IsSpelled texts source folded answer → IsAnswer words before after answer
+spelled_is words before after file bytes source texts folded answer asks h g contract_is folds (not_spelled e) =
+    subst (IsAnswer words before after) (sym e)
+    (unbuilt (line_of words file asks) (behind_directives source folded (holds_text before.files file bytes source texts h g contract_is) folds))
+spelled_is words before after file bytes source texts folded _ asks h g contract_is folds (spelled m c trees of_tokens (proved legal observers verdict)) =
+    accepted (line_of words file asks) texts m c (told_task before.files file bytes source texts m c h g contract_is (design_text source folded m folds of_tokens) trees (legal, observers)) verdict
+spelled_is words before after file bytes source texts folded _ asks h g contract_is folds (spelled m c trees of_tokens (unproved_one legal observers no_list)) =
+    unproved (line_of words file asks) texts m c (told_task before.files file bytes source texts m c h g contract_is (design_text source folded m folds of_tokens) trees (legal, observers)) no_list
+spelled_is words before after file bytes source texts folded _ asks h g contract_is folds (spelled m c trees of_tokens not_of_form) =
+    unbuilt (line_of words file asks) (behind_directives source folded (holds_text before.files file bytes source texts h g contract_is) folds)
+
+pub judged_is : (words : List (List ℕ)) (before after : Outside) (file bytes source : List ℕ) (texts : ContractTexts) (answer : Answer) →
+    AsksFor words file → HoldsFile file bytes before.files → HoldsFile texts.file source before.files → IsContractFile bytes texts →
+    IsJudged texts source answer → IsAnswer words before after answer
+judged_is words before after file bytes source texts answer asks h g contract_is (judged folded folds verdict) =
+    spelled_is words before after file bytes source texts folded answer asks h g contract_is folds verdict
+judged_is words before after file bytes source texts answer asks h g contract_is (not_folded refusal) =
+    unread (line_of words file asks) source answer (holds_text before.files file bytes source texts h g contract_is) refusal
+judged_is words before after file bytes source texts answer asks h g contract_is (unjudged e) = subst (IsAnswer words before after) (sym e) no_memory
 
 -- ---- one read before the others
 
@@ -77,12 +107,28 @@ answer_later words first middle last _ goes (missing line name read rose absent)
     missing line name (name_earlier middle.files first.files line.file name goes.files read) (rose_later first.misses middle.misses last.misses goes.misses rose) (subst (IsAbsent name) goes.files absent)
 answer_later words first middle last _ goes (overlong line name read rose longer) =
     overlong line name (name_earlier middle.files first.files line.file name goes.files read) (rose_later first.overlong middle.overlong last.overlong goes.overlong rose) (subst (IsLonger name 4194304) goes.files longer)
-answer_later words first middle last _ goes (unbuilt line) = unbuilt line
+answer_later words first middle last answer goes (unread line text _ holds refusal) =
+    unread line text answer (subst (λ z. HoldsText z line.file text) goes.files holds) refusal
+answer_later words first middle last _ goes (unbuilt line read) = unbuilt line (subst (λ z. IsUnbuilt z line.file) goes.files read)
 answer_later words first middle last _ goes (fault line name read rose) =
     fault line name (name_earlier middle.files first.files line.file name goes.files read) (rose_later first.faults middle.faults last.faults goes.faults rose)
 answer_later words first middle last _ goes no_memory = no_memory
 
 -- ---- statuses
+
+stop_code : (stop : Stop) → code_of (stop_answer stop) ≡ 3
+stop_code (UnknownMacro p) = refl
+stop_code (Unbalanced p) = refl
+stop_code (Malformed p) = refl
+stop_code (Depth p) = refl
+
+refusal_code : (text : List ℕ) (answer : Answer) → IsTextRefusal text answer → code_of answer ≡ 3
+refusal_code text _ (bad_byte p h) = refl
+refusal_code text _ (bad_literal p h) = refl
+refusal_code text _ (unclosed p h) = refl
+refusal_code text _ (many_tokens h) = refl
+refusal_code text _ (stopped tokens stop listed h) = stop_code stop
+refusal_code text _ (many_uses tokens listed h) = refl
 
 module _ (words : List (List ℕ)) (before after : Outside) where
   zero_is : (answer : Answer) → IsAnswer words before after answer → code_of answer ≡ 0 → (files : Files) → before.files ≡ Some files → IsVerifiedFile files words
@@ -92,7 +138,8 @@ module _ (words : List (List ℕ)) (before after : Outside) where
   zero_is _ (usage none) e files held = absurd (omega arith)
   zero_is _ (missing line name read rose absent) e files held = absurd (omega arith)
   zero_is _ (overlong line name read rose longer) e files held = absurd (omega arith)
-  zero_is _ (unbuilt line) e files held = absurd (omega arith)
+  zero_is answer (unread line text _ holds refusal) e files held = let three : code_of answer ≡ 3 = refusal_code text answer refusal in absurd (omega arith)
+  zero_is _ (unbuilt line read) e files held = absurd (omega arith)
   zero_is _ (fault line name read rose) e files held = absurd (omega arith)
   zero_is _ no_memory e files held = absurd (omega arith)
 
@@ -103,7 +150,8 @@ module _ (words : List (List ℕ)) (before after : Outside) where
   one_is _ (usage none) e files held = absurd (omega arith)
   one_is _ (missing line name read rose absent) e files held = absurd (omega arith)
   one_is _ (overlong line name read rose longer) e files held = absurd (omega arith)
-  one_is _ (unbuilt line) e files held = absurd (omega arith)
+  one_is answer (unread line text _ holds refusal) e files held = let three : code_of answer ≡ 3 = refusal_code text answer refusal in absurd (omega arith)
+  one_is _ (unbuilt line read) e files held = absurd (omega arith)
   one_is _ (fault line name read rose) e files held = absurd (omega arith)
   one_is _ no_memory e files held = absurd (omega arith)
 
@@ -113,7 +161,8 @@ module _ (words : List (List ℕ)) (before after : Outside) where
   two_is _ (usage none) e l = none l
   two_is _ (missing line name read rose absent) e l = omega arith
   two_is _ (overlong line name read rose longer) e l = omega arith
-  two_is _ (unbuilt line) e l = omega arith
+  two_is answer (unread line text _ holds refusal) e l = let three : code_of answer ≡ 3 = refusal_code text answer refusal in omega arith
+  two_is _ (unbuilt line read) e l = omega arith
   two_is _ (fault line name read rose) e l = omega arith
   two_is _ no_memory e l = omega arith
 
@@ -123,7 +172,8 @@ module _ (words : List (List ℕ)) (before after : Outside) where
   not_two _ (usage none') none = inl refl
   not_two _ (missing line name read rose absent) none = absurd (none line)
   not_two _ (overlong line name read rose longer) none = absurd (none line)
-  not_two _ (unbuilt line) none = absurd (none line)
+  not_two _ (unread line text _ holds refusal) none = absurd (none line)
+  not_two _ (unbuilt line read) none = absurd (none line)
   not_two _ (fault line name read rose) none = absurd (none line)
   not_two _ no_memory none = inr refl
 
@@ -133,7 +183,8 @@ module _ (words : List (List ℕ)) (before after : Outside) where
   six_is _ (usage none) e = absurd (omega arith)
   six_is _ (missing line name read rose absent) e = absurd (omega arith)
   six_is _ (overlong line name read rose longer) e = absurd (omega arith)
-  six_is _ (unbuilt line) e = absurd (omega arith)
+  six_is answer (unread line text _ holds refusal) e = let three : code_of answer ≡ 3 = refusal_code text answer refusal in absurd (omega arith)
+  six_is _ (unbuilt line read) e = absurd (omega arith)
   six_is _ (fault line name read rose) e = rose
   six_is _ no_memory e = absurd (omega arith)
 

@@ -16,7 +16,7 @@ pub mod Gathers
 pub mod Prepared
 pub mod Verdicts
 pub mod Answering
+pub mod Refusals
 pub mod WordLists
 pub mod Spellings
-pub mod LineFree
 pub mod ContractTexts

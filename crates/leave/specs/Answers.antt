@@ -9,13 +9,16 @@ use Rattle.lv_io.specs.Given.{Gains, GainsPart}
 use Rattle.lv_ast.specs.declared.expr.Expr.{Expr}
 use Rattle.lv_ast.specs.declared.item.Module.{Module}
 use Rattle.lv_ast.specs.Names.{Name}
+use Rattle.lv_ast.specs.Sources.{source_text}
+use Rattle.lv_ast.specs.declared.tokens.Token.{Token}
 use Rattle.lv_model.specs.Machine.{Machine, Safe, IsInductive, Implies, IsMet, Initial, Allowed}
 use Rattle.leave.specs.declared.answer.Answer.{Answer}
 use Rattle.leave.specs.declared.answer.Answer.TheVariants as a
 use Rattle.leave.specs.declared.contract_file.ContractTexts.{ContractTexts}
 use Rattle.leave.specs.declared.observed.ObserverTrees.{ObserverTrees}
 use Rattle.leave.specs.ContractFile.{IsContractFile}
-use Rattle.leave.specs.Texts.{IsExpressionText, IsDesignText}
+use Rattle.leave.specs.Spelling.{IsModuleOf}
+use Rattle.leave.specs.Texts.{IsExpressionText, IsFolded, IsDesignText, IsTextRefusal}
 use Rattle.leave.specs.FirstForm.{registers_of, machine_of_module, IsLegal, AreObservers}
 
 -- ---- the words
@@ -48,14 +51,14 @@ pub record AreTextsOf (texts : ContractTexts) (c : ObserverTrees) : Type 0 where
   pub attacker : AllZip IsExpressionText texts.attacker c.attacker
   pub equal : AllZip IsExpressionText texts.equal c.equal
 
--- the file is a contract file with these texts, the design is the text of this module, and both are legal for one another
+-- the file is a contract file with these texts, the text of the design files is that of this module, and both are legal for one another
 pub record IsTask (files : Files) (file : List ℕ) (texts : ContractTexts) (m : Module) (c : ObserverTrees) : Type 0 where
   pub contract_bytes : List ℕ
   pub contract_held : files file ≡ Some contract_bytes
   pub contract : IsContractFile contract_bytes texts
   pub design_bytes : List ℕ
   pub design_held : files texts.file ≡ Some design_bytes
-  pub design : IsDesignText design_bytes m
+  pub design : IsDesignText (source_text (design_bytes ∷ [])) m
   pub expressions : AreTextsOf texts c
   pub legal : IsLegal m texts.top texts.clock
   pub observers : AreObservers m texts.clock c
@@ -93,6 +96,21 @@ pub data IsReadName (files : Option Files) (file : List ℕ) : List ℕ → Type
   contract : IsReadName files file file
   design : (bytes : List ℕ) (texts : ContractTexts) → HoldsFile file bytes files → IsContractFile bytes texts → IsReadName files file texts.file
 
+-- the contract file names a design, whose text this is
+pub record HoldsText (files : Option Files) (file text : List ℕ) : Type 0 where
+  pub contract_bytes : List ℕ
+  pub contract_held : HoldsFile file contract_bytes files
+  pub texts : ContractTexts
+  pub contract : IsContractFile contract_bytes texts
+  pub design_bytes : List ℕ
+  pub design_held : HoldsFile texts.file design_bytes files
+  pub joined : text ≡ source_text (design_bytes ∷ [])
+
+-- what is not decided: a file that is no contract file of the form; or one whose design has tokens that its directives leave
+pub data IsUnbuilt (files : Option Files) (file : List ℕ) : Type 0 where
+  no_contract : (bytes : List ℕ) → HoldsFile file bytes files → ((texts : ContractTexts) → IsContractFile bytes texts → ⊥) → IsUnbuilt files file
+  behind_directives : (text : List ℕ) (folded : List Token) → HoldsText files file text → IsFolded text folded → IsUnbuilt files file
+
 pub data IsAnswer (words : List (List ℕ)) (before after : Outside) : Answer → Type 0 where
   accepted : (line : IsCommandLine words) (texts : ContractTexts) (m : Module) (c : ObserverTrees) →
       IfSome before.files (λ files. IsTask files line.file texts m c) → IsProved m texts c → IsAnswer words before after (a.Accepted (registers_of m))
@@ -103,7 +121,9 @@ pub data IsAnswer (words : List (List ℕ)) (before after : Outside) : Answer �
       Rose before.misses after.misses → IsAbsent name before.files → IsAnswer words before after (a.Missing name)
   overlong : (line : IsCommandLine words) (name : List ℕ) → IsReadName before.files line.file name →
       Rose before.overlong after.overlong → IsLonger name 4194304 before.files → IsAnswer words before after (a.Overlong name)
-  unbuilt : IsCommandLine words → IsAnswer words before after a.Unbuilt
+  unread : (line : IsCommandLine words) (text : List ℕ) (answer : Answer) → HoldsText before.files line.file text → IsTextRefusal text answer →
+      IsAnswer words before after answer
+  unbuilt : (line : IsCommandLine words) → IsUnbuilt before.files line.file → IsAnswer words before after a.Unbuilt
   fault : (line : IsCommandLine words) (name : List ℕ) → IsReadName before.files line.file name →
       Rose before.faults after.faults → IsAnswer words before after (a.Fault name)
   no_memory : IsAnswer words before after a.NoMemory
@@ -127,6 +147,14 @@ text_of a.Unproved = line (codes "unproved")
 text_of a.Usage = line (codes "usage: leave MODE FILE [--out NAME]")
 text_of (a.Missing name) = line (codes "refused missing " ++ name)
 text_of (a.Overlong name) = line (codes "refused long " ++ name)
+text_of (a.BadByte place) = line (codes "refused byte " ++ decimal place)
+text_of (a.BadLiteral place) = line (codes "refused literal " ++ decimal place)
+text_of (a.Unclosed place) = line (codes "refused unclosed " ++ decimal place)
+text_of (a.TooMany count) = line (codes "refused tokens " ++ decimal count)
+text_of (a.UnknownMacro place) = line (codes "refused macro " ++ decimal place)
+text_of (a.Unbalanced place) = line (codes "refused unbalanced " ++ decimal place)
+text_of (a.Malformed place) = line (codes "refused malformed " ++ decimal place)
+text_of (a.MacroDepth place) = line (codes "refused macro-depth " ++ decimal place)
 text_of a.Unbuilt = line (codes "refused unbuilt")
 text_of (a.Fault name) = line (codes "fault read " ++ name)
 text_of a.NoMemory = []
@@ -137,6 +165,14 @@ code_of a.Unproved = 1
 code_of a.Usage = 2
 code_of (a.Missing name) = 3
 code_of (a.Overlong name) = 3
+code_of (a.BadByte place) = 3
+code_of (a.BadLiteral place) = 3
+code_of (a.Unclosed place) = 3
+code_of (a.TooMany count) = 3
+code_of (a.UnknownMacro place) = 3
+code_of (a.Unbalanced place) = 3
+code_of (a.Malformed place) = 3
+code_of (a.MacroDepth place) = 3
 code_of a.Unbuilt = 3
 code_of (a.Fault name) = 6
 code_of a.NoMemory = 7
@@ -186,10 +222,16 @@ pub data IsVerdict (texts : ContractTexts) (m : Module) (c : ObserverTrees) : An
   unproved_one : IsLegal m texts.top texts.clock → AreObservers m texts.clock c → IsUnproved m texts c → IsVerdict texts m c a.Unproved
   not_of_form : IsVerdict texts m c a.Unbuilt
 
+-- the verdict on the tokens of a design
+pub data IsSpelled (texts : ContractTexts) (text : List ℕ) (folded : List Token) (answer : Answer) : Type 0 where
+  spelled : (m : Module) (c : ObserverTrees) → AreTextsOf texts c → IsModuleOf text folded m → IsVerdict texts m c answer → IsSpelled texts text folded answer
+  not_spelled : answer ≡ a.Unbuilt → IsSpelled texts text folded answer
+
 -- the verdict on a design's text
-pub data IsJudged (texts : ContractTexts) (bytes : List ℕ) (c : ObserverTrees) (answer : Answer) : Type 0 where
-  judged : (m : Module) → IsDesignText bytes m → IsVerdict texts m c answer → IsJudged texts bytes c answer
-  unread : answer ≡ a.Unbuilt → IsJudged texts bytes c answer
+pub data IsJudged (texts : ContractTexts) (text : List ℕ) (answer : Answer) : Type 0 where
+  judged : (folded : List Token) → IsFolded text folded → IsSpelled texts text folded answer → IsJudged texts text answer
+  not_folded : IsTextRefusal text answer → IsJudged texts text answer
+  unjudged : answer ≡ a.NoMemory → IsJudged texts text answer
 
 -- why a file wasn't read
 abbrev pub IsCause : List ℕ → Outside → Outside → ShelfError → Type 0

@@ -20,6 +20,22 @@ pub(crate) enum Answer {
     Missing(Text),
     /// The file is too long.
     Overlong(Text),
+    /// No token begins at this byte of the design.
+    BadByte(u64),
+    /// The literal at this byte has more than 128 bits.
+    BadLiteral(u64),
+    /// The comment at this byte never ends.
+    Unclosed(u64),
+    /// There are so many tokens, or tokens and uses of macros.
+    TooMany(u64),
+    /// The macro at this byte is not defined.
+    UnknownMacro(u64),
+    /// The conditional at this byte is not balanced.
+    Unbalanced(u64),
+    /// The directive at this byte is malformed.
+    Malformed(u64),
+    /// Uses of macros at this byte are nested too deep.
+    MacroDepth(u64),
     /// The contract file or the design isn't of the form that is decided.
     Unbuilt,
     /// The file couldn't be read.
@@ -36,7 +52,17 @@ impl Answer {
             Answer::Accepted(_) => 0,
             Answer::Unproved => 1,
             Answer::Usage => 2,
-            Answer::Missing(_) | Answer::Overlong(_) | Answer::Unbuilt => 3,
+            Answer::Missing(_)
+            | Answer::Overlong(_)
+            | Answer::BadByte(_)
+            | Answer::BadLiteral(_)
+            | Answer::Unclosed(_)
+            | Answer::TooMany(_)
+            | Answer::UnknownMacro(_)
+            | Answer::Unbalanced(_)
+            | Answer::Malformed(_)
+            | Answer::MacroDepth(_)
+            | Answer::Unbuilt => 3,
             Answer::Fault(_) => 6,
             Answer::NoMemory => 7,
         }
@@ -70,17 +96,25 @@ fn push_kept(text: &mut Vec<u8>, registers: &[Text]) -> Result<(), NoMemory>
 }
 
 /// The number in decimal.
-fn decimal_of(alloc: Global, number: usize) -> Result<Vec<u8>, NoMemory>
+fn decimal_of(alloc: Global, number: u64) -> Result<Vec<u8>, NoMemory>
     ensures { IfOk result (λ text. text.items ≡ decimal number) }
 {
     let text = format!(in alloc; "{number}")?;
     Ok(text.into_bytes())
 }
 
+fn numbered(alloc: Global, start: &[u8], number: u64) -> Result<Vec<u8>, NoMemory>
+    ensures { IfOk result (λ text. text.items ≡ line (start.now ++ decimal number)) }
+{
+    let number = decimal_of(alloc, number)?;
+    let text = one_line(alloc, start, &number)?;
+    Ok(text)
+}
+
 fn accepted(alloc: Global, registers: &[Text]) -> Result<Vec<u8>, NoMemory>
     ensures { IfOk result (λ text. text.items ≡ accepted_text registers.now) }
 {
-    let count = decimal_of(alloc, registers.len() + 1)?;
+    let count = decimal_of(alloc, registers.len() as u64 + 1)?;
     let mut text = Vec::new(alloc);
     push_line(&mut text, b"accepted", b"")?;
     push_line(&mut text, b"lookahead 0", b"")?;
@@ -100,6 +134,14 @@ pub(crate) fn text(alloc: Global, answer: &Answer) -> Result<Vec<u8>, NoMemory>
         Answer::Usage => one_line(alloc, b"usage: leave MODE FILE [--out NAME]", b""),
         Answer::Missing(name) => one_line(alloc, b"refused missing ", name.bytes()),
         Answer::Overlong(name) => one_line(alloc, b"refused long ", name.bytes()),
+        Answer::BadByte(place) => numbered(alloc, b"refused byte ", *place),
+        Answer::BadLiteral(place) => numbered(alloc, b"refused literal ", *place),
+        Answer::Unclosed(place) => numbered(alloc, b"refused unclosed ", *place),
+        Answer::TooMany(count) => numbered(alloc, b"refused tokens ", *count),
+        Answer::UnknownMacro(place) => numbered(alloc, b"refused macro ", *place),
+        Answer::Unbalanced(place) => numbered(alloc, b"refused unbalanced ", *place),
+        Answer::Malformed(place) => numbered(alloc, b"refused malformed ", *place),
+        Answer::MacroDepth(place) => numbered(alloc, b"refused macro-depth ", *place),
         Answer::Unbuilt => one_line(alloc, b"refused unbuilt", b""),
         Answer::Fault(name) => one_line(alloc, b"fault read ", name.bytes()),
         Answer::NoMemory => Err(NoMemory),

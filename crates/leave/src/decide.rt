@@ -2,19 +2,20 @@
 
 ghost use Rattle.std.specs.Prelude.{◌≡◌, ℕ, List, IfOk, IfErr};
 ghost use Rattle.lv_io.specs.Files.{HoldsFile};
-ghost use Rattle.leave.specs.Answers.{IsAnswer, IsVerdict, IsJudged, IsRefusal, IsCause, Goes, AsksFor, AreTextsOf};
+ghost use Rattle.leave.specs.Answers.{IsAnswer, IsVerdict, IsSpelled, IsJudged, IsRefusal, IsCause, Goes, AsksFor};
 ghost use Rattle.leave.specs.ContractFile.{IsContractFile};
 
 use crate::answer::Answer;
 use crate::contract_file::{ContractTexts, read_contract_texts};
-use crate::design_text::read_design;
+use crate::design_text::read_module;
+use crate::folded::folded;
 use crate::observed::ObserverTrees;
 use crate::prepare::{Prepared, prepare};
 use crate::signals::Signals;
 use crate::trees::read_trees;
 use crate::verdict::is_accepted;
 use crate::words::{Words, file_of};
-use lv_ast::Module;
+use lv_ast::{Module, Tokens};
 use lv_bits::{Bytes, NoMemory, Text};
 use lv_io::{Shelf, ShelfError};
 use std::alloc::Global;
@@ -47,20 +48,31 @@ fn judge_module(
     }
 }
 
-/// The verdict on a design's text.
-fn judge(
-    alloc: Global,
-    texts: &ContractTexts,
-    design: &[u8],
-    trees: &ObserverTrees,
-) -> Result<Answer, NoMemory>
-    ensures { IfOk result (λ answer. IsJudged texts.now design.now trees.now answer) }
+/// The verdict on the tokens of a design.
+fn judge_tokens(alloc: Global, texts: &ContractTexts, tokens: &Tokens) -> Result<Answer, NoMemory>
+    ensures { IfOk result (λ answer. IsSpelled texts.now tokens.now.text tokens.now.list answer) }
 {
-    let Some(design) = read_design(alloc, design)? else {
+    let Some(trees) = read_trees(alloc, texts)? else {
         return Ok(Answer::Unbuilt);
     };
-    let answer = judge_module(alloc, texts, &design, trees)?;
+    let Some(design) = read_module(alloc, tokens)? else {
+        return Ok(Answer::Unbuilt);
+    };
+    let answer = judge_module(alloc, texts, &design, &trees)?;
     Ok(answer)
+}
+
+/// The verdict on a design's text.
+fn judge(alloc: Global, texts: &ContractTexts, text: &[u8]) -> Answer
+    ensures { IsJudged texts.now text.now result }
+{
+    match folded(alloc, text) {
+        Err(answer) => answer,
+        Ok(tokens) => match judge_tokens(alloc, texts, &tokens) {
+            Ok(answer) => answer,
+            Err(NoMemory) => Answer::NoMemory,
+        },
+    }
 }
 
 /// What is answered where a file isn't read.
@@ -91,28 +103,6 @@ fn read_file<H: Shelf>(alloc: Global, name: &Text, shelf: &mut H) -> Result<Byte
     shelf.read(alloc, name, FILE_LIMIT)
 }
 
-/// From the trees of the contract file on.
-fn from_trees<H: Shelf>(
-    alloc: Global,
-    texts: &ContractTexts,
-    trees: &ObserverTrees,
-    shelf: &mut H,
-) -> Answer
-    ensures answer { (words : List (List ℕ)) (file bytes : List ℕ) → AsksFor words file → HoldsFile file bytes (H.files shelf.old) →
-        IsContractFile bytes texts.now → AreTextsOf texts.now trees.now → IsAnswer words
-        (record { files = H.files shelf.old; faults = H.faults shelf.old; misses = H.misses shelf.old; overlong = H.overlong shelf.old })
-        (record { files = H.files shelf.new; faults = H.faults shelf.new; misses = H.misses shelf.new; overlong = H.overlong shelf.new }) result }
-    ensures files_stay { H.files shelf.new ≡ H.files shelf.old }
-{
-    match read_file(alloc, &texts.file, shelf) {
-        Err(error) => refused(alloc, &texts.file, error),
-        Ok(design) => match judge(alloc, texts, design.bytes(), trees) {
-            Ok(answer) => answer,
-            Err(NoMemory) => Answer::NoMemory,
-        },
-    }
-}
-
 /// From the texts of the contract file on.
 fn from_texts<H: Shelf>(alloc: Global, texts: &ContractTexts, shelf: &mut H) -> Answer
     ensures answer { (words : List (List ℕ)) (file bytes : List ℕ) → AsksFor words file → HoldsFile file bytes (H.files shelf.old) →
@@ -121,10 +111,9 @@ fn from_texts<H: Shelf>(alloc: Global, texts: &ContractTexts, shelf: &mut H) -> 
         (record { files = H.files shelf.new; faults = H.faults shelf.new; misses = H.misses shelf.new; overlong = H.overlong shelf.new }) result }
     ensures files_stay { H.files shelf.new ≡ H.files shelf.old }
 {
-    match read_trees(alloc, texts) {
-        Err(NoMemory) => Answer::NoMemory,
-        Ok(None) => Answer::Unbuilt,
-        Ok(Some(trees)) => from_trees(alloc, texts, &trees, shelf),
+    match read_file(alloc, &texts.file, shelf) {
+        Err(error) => refused(alloc, &texts.file, error),
+        Ok(design) => judge(alloc, texts, design.bytes()),
     }
 }
 

@@ -2,10 +2,7 @@
 
 ghost use Rattle.std.specs.Prelude.{IfOk, IfSome};
 ghost use Rattle.leave.specs.Spelling.{SpellsModule, IsModuleOf};
-ghost use Rattle.leave.specs.Texts.{IsDesignText};
 
-use crate::expression_text::lexed;
-use crate::lines::without_lines;
 use crate::module_items::items;
 use crate::ports::ports;
 use crate::reading::{Unread, ident, word};
@@ -73,26 +70,6 @@ pub(crate) fn read_module(alloc: Global, tokens: &Tokens) -> Result<Option<Modul
     ensures { IfOk result (λ m. IfSome m (λ m. IsModuleOf tokens.now.text tokens.now.list m)) }
 {
     match whole_module(alloc, tokens.text.bytes(), tokens.list.as_slice()) {
-        Ok(module) => Ok(Some(module)),
-        Err(Unread::Unbuilt) => Ok(None),
-        Err(Unread::NoMemory) => Err(NoMemory),
-    }
-}
-
-fn whole_design(alloc: Global, bytes: &[u8]) -> Result<Module, Unread>
-    ensures { IfOk result (λ m. IsDesignText bytes.now m) }
-{
-    let tokens = lexed(alloc, bytes)?;
-    let kept = without_lines(alloc, tokens.list.as_slice())?;
-    let module = whole_module(alloc, bytes, kept.as_slice())?;
-    Ok(module)
-}
-
-/// The module that the bytes spell: none where they aren't a text without directives whose tokens are as `read_module` says.
-pub(crate) fn read_design(alloc: Global, bytes: &[u8]) -> Result<Option<Module>, NoMemory>
-    ensures { IfOk result (λ m. IfSome m (λ m. IsDesignText bytes.now m)) }
-{
-    match whole_design(alloc, bytes) {
         Ok(module) => Ok(Some(module)),
         Err(Unread::Unbuilt) => Ok(None),
         Err(Unread::NoMemory) => Err(NoMemory),

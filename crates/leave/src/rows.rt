@@ -14,8 +14,18 @@ const OPEN: &[u8] =
 const AHEAD: &[u8] =
     b"format = 1\nfiles = [\"t.v\"]\ntop = \"t\"\nclock = \"clk\"\nlookahead = 1\nretire = \"q\"\ncontract = [\"q\"]\nattacker = [\"q\"]\n[candidates]\nregisters = true\naligned = true\n";
 
+const UNREAD: &[u8] =
+    b"format = 1\nfiles = [\"t.v\"]\ntop = \"t\"\nclock = \"clk\"\nlookahead = 0\nretire = \"q |\"\ncontract = [\"q\"]\nattacker = [\"q\"]\n[candidates]\nregisters = true\naligned = true\n";
+
 const DESIGN: &[u8] =
     b"module t(input clk, input d, output reg q);\n  always @(posedge clk) q <= q ^ d;\nendmodule\n";
+
+const MACRO: &[u8] =
+    b"`define X q ^ d\nmodule t(input clk, input d, output reg q);\n  always @(posedge clk) q <= `X; // sum\nendmodule\n";
+
+// A million uses.
+const USES: &[u8] =
+    b"`define a ;\n`define b `a`a`a`a`a`a`a`a`a`a\n`define c `b`b`b`b`b`b`b`b`b`b\n`define d `c`c`c`c`c`c`c`c`c`c\n`define e `d`d`d`d`d`d`d`d`d`d\n`define f `e`e`e`e`e`e`e`e`e`e\n`define g `f`f`f`f`f`f`f`f`f`f\n`g";
 
 const ACCEPTED: &[u8] = b"accepted\nlookahead 0\nkept 2\nkeep eq q\nkeep aligned\n";
 
@@ -38,13 +48,13 @@ fn put(alloc: Global, shelf: &mut MemShelf, name: &[u8], bytes: &[u8]) -> Result
 fn shelf_with(
     alloc: Global,
     contract: &[u8],
-    has_design: bool,
+    design: Option<&[u8]>,
     fails: Vec<u64>,
 ) -> Result<MemShelf, NoMemory> {
     let mut shelf = MemShelf::new(alloc, fails);
     put(alloc, &mut shelf, b"a.toml", contract)?;
-    if has_design {
-        put(alloc, &mut shelf, b"t.v", DESIGN)?;
+    if let Some(design) = design {
+        put(alloc, &mut shelf, b"t.v", design)?;
     }
     Ok(shelf)
 }
@@ -53,12 +63,12 @@ fn gives(
     alloc: Global,
     list: &[&[u8]],
     contract: &[u8],
-    has_design: bool,
+    design: Option<&[u8]>,
     code: u8,
     text: &[u8],
 ) -> Result<bool, NoMemory> {
     let words = words_of(alloc, list)?;
-    let mut shelf = shelf_with(alloc, contract, has_design, Vec::new(alloc))?;
+    let mut shelf = shelf_with(alloc, contract, design, Vec::new(alloc))?;
     let mut sink = MemSink::new(alloc, 200, 200, Vec::new(alloc))?;
     let status = run(alloc, &words, &mut shelf, &mut sink);
     Ok(status.code == code && sink.bytes() == text)
@@ -68,16 +78,58 @@ fn gives(
 fn rows_of_verify(rt: HostRuntime) -> Result<(), Fail> {
     let alloc = rt.alloc();
     let verify = [b"verify".as_slice(), b"a.toml".as_slice()];
-    let rows: [(&[u8], bool, u8, &[u8]); 4] = [
-        (CONTRACT, true, 0, ACCEPTED),
-        (OPEN, true, 1, b"unproved\n"),
-        (AHEAD, true, 3, b"refused unbuilt\n"),
-        (CONTRACT, false, 3, b"refused missing t.v\n"),
+    let rows: [(&[u8], Option<&[u8]>, u8, &[u8]); 10] = [
+        (CONTRACT, Some(DESIGN), 0, ACCEPTED),
+        (CONTRACT, Some(MACRO), 0, ACCEPTED),
+        (OPEN, Some(DESIGN), 1, b"unproved\n"),
+        (OPEN, Some(MACRO), 1, b"unproved\n"),
+        (AHEAD, Some(DESIGN), 3, b"refused unbuilt\n"),
+        (AHEAD, Some(b"\""), 3, b"refused unbuilt\n"),
+        (CONTRACT, None, 3, b"refused missing t.v\n"),
+        (UNREAD, None, 3, b"refused missing t.v\n"),
+        (UNREAD, Some(b"\""), 3, b"refused byte 0\n"),
+        (UNREAD, Some(DESIGN), 3, b"refused unbuilt\n"),
     ];
-    for (contract, has_design, code, text) in rows {
+    for (contract, design, code, text) in rows {
         assert!(rt;
             matches!(
-                gives(alloc, &verify, contract, has_design, code, text),
+                gives(alloc, &verify, contract, design, code, text),
+                Ok(true)
+            )
+        );
+    }
+    Ok(())
+}
+
+// Each refusal of tokens and of directives; then, of two faults in one text, that of the earlier step.
+#[test]
+fn rows_of_refused_texts(rt: HostRuntime) -> Result<(), Fail> {
+    let alloc = rt.alloc();
+    let verify = [b"verify".as_slice(), b"a.toml".as_slice()];
+    let lines = vec![in alloc; b'\n'; 500_001]?;
+    let rows: [(&[u8], &[u8]); 14] = [
+        (b"a \"", b"refused byte 2\n"),
+        (
+            b" 340282366920938463463374607431768211456",
+            b"refused literal 1\n",
+        ),
+        (b"a /* b", b"refused unclosed 2\n"),
+        (&lines, b"refused tokens 500001\n"),
+        (b"a `X", b"refused macro 2\n"),
+        (b"`ifdef X a", b"refused unbalanced 10\n"),
+        (b"a `define 3", b"refused malformed 2\n"),
+        (b"`define X `X\n`X", b"refused macro-depth 10\n"),
+        (USES, b"refused tokens 500001\n"),
+        (b"module module \"", b"refused byte 14\n"),
+        (b"`X /*", b"refused unclosed 3\n"),
+        (b"module module `X", b"refused macro 14\n"),
+        (b"module module", b"refused unbuilt\n"),
+        (b"", b"refused unbuilt\n"),
+    ];
+    for (design, text) in rows {
+        assert!(rt;
+            matches!(
+                gives(alloc, &verify, CONTRACT, Some(design), 3, text),
                 Ok(true)
             )
         );
@@ -97,7 +149,12 @@ fn words_are_refused(rt: HostRuntime) -> Result<(), Fail> {
         &[b"verify", b"-a.toml"],
     ];
     for list in rows {
-        assert!(rt; matches!(gives(alloc, list, CONTRACT, true, 2, USAGE), Ok(true)));
+        assert!(rt;
+            matches!(
+                gives(alloc, list, CONTRACT, Some(DESIGN), 2, USAGE),
+                Ok(true)
+            )
+        );
     }
     Ok(())
 }
@@ -106,7 +163,7 @@ fn second_read_fails(alloc: Global) -> Result<bool, NoMemory> {
     let words = words_of(alloc, &[b"verify", b"a.toml"])?;
     let mut fails = Vec::new(alloc);
     fails.push(1)?;
-    let mut shelf = shelf_with(alloc, CONTRACT, true, fails)?;
+    let mut shelf = shelf_with(alloc, CONTRACT, Some(DESIGN), fails)?;
     let mut sink = MemSink::new(alloc, 200, 200, Vec::new(alloc))?;
     let status = run(alloc, &words, &mut shelf, &mut sink);
     Ok(status.code == 6 && sink.bytes() == b"fault read t.v\n".as_slice())
@@ -114,7 +171,7 @@ fn second_read_fails(alloc: Global) -> Result<bool, NoMemory> {
 
 fn second_write_fails(alloc: Global) -> Result<bool, NoMemory> {
     let words = words_of(alloc, &[b"verify", b"a.toml"])?;
-    let mut shelf = shelf_with(alloc, CONTRACT, true, Vec::new(alloc))?;
+    let mut shelf = shelf_with(alloc, CONTRACT, Some(DESIGN), Vec::new(alloc))?;
     let mut fails = Vec::new(alloc);
     fails.push(1)?;
     let mut sink = MemSink::new(alloc, 200, 8, fails)?;

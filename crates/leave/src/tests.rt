@@ -1,7 +1,9 @@
-use crate::design_text::read_design;
+use crate::answer::Answer;
+use crate::design_text::read_module;
 use crate::expression_text::read_expression_text;
+use crate::folded::folded;
 use lv_ast::{Expr, Item, Module, Ports, Stmt};
-use lv_bits::Op;
+use lv_bits::{NoMemory, Op};
 use std::alloc::Global;
 use std::test::Fail;
 
@@ -32,28 +34,35 @@ fn is_toggle(module: &Module) -> bool {
     inputs.names.len() == 2 && outputs.output && outputs.names.len() == 1 && regs.len() == 2
 }
 
-fn reads_toggle(alloc: Global) -> bool {
-    match read_design(alloc, TOGGLE) {
+fn read(alloc: Global, design: &[u8]) -> Result<Option<Module>, Answer> {
+    let tokens = folded(alloc, design)?;
+    match read_module(alloc, &tokens) {
+        Ok(module) => Ok(module),
+        Err(NoMemory) => Err(Answer::NoMemory),
+    }
+}
+
+fn reads_toggle(alloc: Global, design: &[u8]) -> bool {
+    match read(alloc, design) {
         Ok(Some(module)) => is_toggle(&module),
         _ => false,
     }
 }
 
 fn is_outside(alloc: Global, design: &[u8]) -> bool {
-    matches!(read_design(alloc, design), Ok(None))
+    matches!(read(alloc, design), Ok(None))
 }
 
 #[test]
 fn reads_designs(rt: HostRuntime) -> Result<(), Fail> {
-    assert!(rt; reads_toggle(rt.alloc()));
-    let outside: [&[u8]; 8] = [
+    assert!(rt; reads_toggle(rt.alloc(), TOGGLE));
+    let outside: [&[u8]; 7] = [
         b"module top(input clk, output q); endmodule".as_slice(),
         b"module top(input clk, output reg q) endmodule".as_slice(),
         b"module top(input clk); always @(posedge clk) q = clk; endmodule".as_slice(),
         b"module top(input clk); always @(posedge clk) q <= clk && q; endmodule".as_slice(),
         b"module top(input clk); reg [1:0] a; endmodule".as_slice(),
         b"module top(input clk); endmodule endmodule".as_slice(),
-        b"`define A\nmodule top(input clk); endmodule".as_slice(),
         b"".as_slice(),
     ];
     for design in outside {

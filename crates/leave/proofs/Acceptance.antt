@@ -1,19 +1,19 @@
 -- The three formulas are valid exactly where the list of all candidates is inductive and implies.
-use Rattle.std.proofs.Common.{◌≡◌, ℕ, zero, suc, ◌+◌, ◌<◌, ◌≤◌, ◌⊎◌, inl, inr, Bool, true, false, ◌&&◌, List, [], ◌∷◌, ◌++◌, length, map, nat_eq, refl, sym, ◌∙◌, ap, subst, arith, get_or}
-use Rattle.std.specs.Prelude.{IsTrue, ◌↔◌, if◌then◌else◌, Option, Some, None, slice_get}
-use Rattle.std.specs.List.{All, range_with_len}
+use Rattle.std.proofs.Common.{◌≡◌, ℕ, zero, suc, ◌+◌, ◌<◌, ◌≤◌, Bool, true, false, ◌&&◌, List, [], ◌∷◌, ◌++◌, length, nat_eq, refl, sym, ◌∙◌, ap, subst, arith, get_or}
+use Rattle.std.specs.Prelude.{IsTrue, ◌↔◌, if◌then◌else◌, Some, slice_get}
+use Rattle.std.specs.List.{range_with_len}
 use Rattle.std.proofs.lemmas.Bool.{and_from, and_parts, eq-eqb, eqb-true}
 use Rattle.std.proofs.lemmas.List.Elements.{All-nil}
 use Rattle.std.proofs.lemmas.Option.{slice_get-get_or, slice_get_within}
 use Rattle.lv_bits.specs.Values.{bit}
 use Rattle.lv_model.specs.Machine.{Machine, IsInitial, IsWindow, AllHold, IsInductive, Implies, Agree, aligned_after}
-use Rattle.lv_model.specs.Design.{values, entry, row_of}
+use Rattle.lv_model.specs.Design.{values}
 use Rattle.leave.specs.declared.formula.Formula.{Formula}
 use Rattle.leave.specs.declared.formula.Formula.TheVariants.{Constant}
 use Rattle.leave.specs.declared.problem.Problem.{Problem}
-use Rattle.leave.specs.Formulas.{Assignment, Truth, constant, both, alike, implied, in_copy, copy_of, truth, IsZeroOutside, IsValid}
-use Rattle.leave.specs.Problems.{number, numbers, register, left, right, alike_in, all_alike, chosen_alike, first_alike, machine_of_problem, state_alike, shown_alike, base_formula, step_formula, imply_formula}
-use Rattle.leave.proofs.Pairs.{copy-settled, copies-share, joined, joined-zero, left-joined, right-joined, lt_true, lt_false}
+use Rattle.leave.specs.Formulas.{Assignment, both, copy_of, truth, IsZeroOutside, IsValid}
+use Rattle.leave.specs.Problems.{numbers, left, right, alike_in, all_alike, chosen_alike, machine_of_problem, state_alike, shown_alike, base_formula, step_formula, imply_formula}
+use Rattle.leave.proofs.Pairs.{copy-settled, copies-share, joined, joined-zero, left-joined, right-joined}
 use Rattle.leave.proofs.Alike.{from_bits, both-parts, both-from, implied-apply, implied-from, alike-from, from-alike, left-is, right-is, all-from, from-all, chosen-from, from-chosen, first-from, from-first}
 use Rattle.leave.proofs.Candidates.{numbers-are, numbers-hold, registers-equal, is-aligned}
 

@@ -1,7 +1,7 @@
 -- What it means that formulas are alike in both copies.
-use Rattle.std.proofs.Common.{◌≡◌, ℕ, zero, suc, ◌+◌, ◌<◌, ◌≤◌, ◌⊎◌, inl, inr, Bool, true, false, not, ◌&&◌, ◌||◌, if◌then◌else◌, List, [], ◌∷◌, length, map, refl, sym, ◌∙◌, ap, subst, arith}
+use Rattle.std.proofs.Common.{◌≡◌, ℕ, zero, suc, ◌+◌, ◌<◌, inl, inr, Bool, true, false, not, ◌||◌, List, [], ◌∷◌, length, map, refl, sym, ap, subst, arith}
 use Rattle.std.specs.List.{All}
-use Rattle.std.proofs.lemmas.Bool.{cases_eq, cases_lt, and_from, and_parts}
+use Rattle.std.proofs.lemmas.Bool.{cases_lt, and_from, and_parts}
 use Rattle.std.proofs.lemmas.List.Elements.{All-nil, All-cons, All-head, All-tail}
 use Rattle.lv_bits.specs.Values.{bit}
 use Rattle.lv_model.specs.Design.{values}
@@ -9,7 +9,7 @@ use Rattle.leave.specs.declared.formula.Formula.{Formula}
 use Rattle.leave.specs.Formulas.{Assignment, Truth, same_bit, constant, variable, both, alike, implied, in_copy, copy_of, truth}
 use Rattle.leave.specs.declared.formula.Formula.TheVariants.{Constant}
 use Rattle.leave.proofs.Truths.{truth-Constant}
-use Rattle.leave.specs.Problems.{number, numbers, register, left, right, alike_in, all_alike, chosen_alike, first_alike}
+use Rattle.leave.specs.Problems.{numbers, register, left, right, alike_in, all_alike, chosen_alike, first_alike}
 
 pub same_from : (a b : Bool) → a ≡ b → same_bit a b ≡ true
 same_from true true e = refl

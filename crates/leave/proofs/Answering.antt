@@ -1,15 +1,13 @@
 -- Answers, put together from what was read.
-use Rattle.std.proofs.Common.{◌≡◌, ℕ, ◌+◌, ◌<◌, ◌≤◌, Bool, true, false, List, [], ◌∷◌, ◌++◌, length, refl, sym, ◌∙◌, ap, subst, arith, min, get_or}
+use Rattle.std.proofs.Common.{◌≡◌, ℕ, ◌≤◌, List, refl, sym, subst, arith}
 use Rattle.std.specs.Prelude.{Option, Some, None, IfSome, ◌⊎◌}
 use Rattle.std.proofs.Common.{inl, inr}
 use Rattle.lv_io.specs.declared.shelf.ShelfError.{ShelfError}
-use Rattle.lv_io.specs.declared.shelf.ShelfError.TheVariants as s
 use Rattle.lv_io.specs.Causes.{Rose}
 use Rattle.lv_io.specs.Files.{Files, HoldsFile, IsAbsent, IsLonger}
 use Rattle.lv_ast.specs.declared.tokens.Token.{Token}
 use Rattle.lv_ast.specs.declared.item.Module.{Module}
 use Rattle.leave.specs.declared.answer.Answer.{Answer}
-use Rattle.leave.specs.declared.answer.Answer.TheVariants as a
 use Rattle.leave.specs.declared.contract_file.ContractTexts.{ContractTexts}
 use Rattle.leave.specs.declared.observed.ObserverTrees.{ObserverTrees}
 use Rattle.leave.specs.ContractFile.{IsContractFile}
@@ -17,7 +15,7 @@ use Rattle.lv_ast.specs.Folds.{Stop, UnknownMacro, Unbalanced, Malformed, Depth}
 use Rattle.leave.specs.Spelling.{IsModuleOf}
 use Rattle.leave.specs.Texts.{IsFolded, IsDesignText, IsTextRefusal, bad_byte, bad_literal, unclosed, many_tokens, stopped, many_uses, stop_answer}
 use Rattle.leave.specs.FirstForm.{IsLegal, AreObservers}
-use Rattle.leave.specs.Answers.{AsksFor, IsCommandLine, AreTextsOf, IsTask, Outside, IsReadName, contract, design, HoldsText, IsUnbuilt, behind_directives, IsAnswer, accepted, unproved, usage, missing, overlong, unread, unbuilt, fault, no_memory, IsVerdict, proved, unproved_one, not_of_form, IsSpelled, spelled, not_spelled, IsJudged, judged, not_folded, unjudged, IsCause, Goes, IsRefusal, is_missing, is_long, is_fault, is_memory, IsReported, told, cut, unwritten, Reports, IsVerifiedFile, IsUnprovedFile, HasFault, code_of}
+use Rattle.leave.specs.Answers.{AsksFor, IsCommandLine, AreTextsOf, IsTask, Outside, IsReadName, HoldsText, IsUnbuilt, behind_directives, IsAnswer, accepted, unproved, usage, missing, overlong, unread, unbuilt, fault, no_memory, proved, unproved_one, not_of_form, IsSpelled, spelled, not_spelled, IsJudged, judged, not_folded, unjudged, IsCause, Goes, IsRefusal, is_missing, is_long, is_fault, is_memory, IsReported, told, cut, unwritten, Reports, IsVerifiedFile, IsUnprovedFile, HasFault, code_of}
 
 abbrev pub line_of : (words : List (List ℕ)) (file : List ℕ) → AsksFor words file → IsCommandLine words
 line_of words file asks = record { file = file; asks = asks }

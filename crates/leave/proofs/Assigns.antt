@@ -1,31 +1,30 @@
 -- What the statements of a clocked block leave, one after another.
-use Rattle.std.proofs.Common.{◌≡◌, ℕ, zero, suc, ◌+◌, ◌*◌, ◌/◌, ◌%◌, ◌^◌, ◌<◌, ◌≤◌, ◌⊎◌, inl, inr, Bool, true, false, if◌then◌else◌, List, [], ◌∷◌, ◌++◌, length, map, refl, sym, ◌∙◌, ap, subst, arith, get_or}
-use Rattle.std.specs.Prelude.{Option, Some, None, slice_get, slice_set, bytes_eq, All, max}
+use Rattle.std.proofs.Common.{◌≡◌, ℕ, zero, suc, ◌/◌, ◌%◌, ◌^◌, inl, inr, Bool, true, false, if◌then◌else◌, List, [], ◌∷◌, ◌++◌, refl, sym, ◌∙◌, ap, subst, arith, get_or}
+use Rattle.std.specs.Prelude.{Some, None, slice_get, slice_set, bytes_eq, All, max}
 use Rattle.std.specs.List.{IsDistinct}
 use Rattle.std.proofs.lemmas.Bool.{cases_eq}
 use Rattle.std.proofs.lemmas.List.{length-set}
 use Rattle.std.proofs.lemmas.Option.{slice_get_within, slice_get-get_or}
-use Rattle.std.proofs.lemmas.List.Elements.{All-nil, All-cons, All-head, All-tail, All-push}
+use Rattle.std.proofs.lemmas.List.Elements.{All-head, All-tail, All-push}
 use Rattle.std.proofs.lemmas.Map.Keys.{IsDistinct-head, IsDistinct-tail}
 use Rattle.lv_bits.specs.Values.{bit}
 use Rattle.lv_ast.specs.declared.expr.Path.{Path}
 use Rattle.lv_ast.specs.declared.expr.Expr.{Expr}
-use Rattle.lv_ast.specs.declared.stmt.Target.{Target}
 use Rattle.lv_ast.specs.declared.stmt.Target.TheVariants as t
 use Rattle.lv_ast.specs.declared.stmt.Stmt.{Stmt}
 use Rattle.lv_ast.specs.declared.stmt.Stmt.TheVariants as b
-use Rattle.lv_ast.specs.Names.{Name, Names, Valuation, Declared, Variable, known, is_signal_sort}
-use Rattle.lv_ast.specs.Places.{Place, place_of, write, write_bits, set_bit}
+use Rattle.lv_ast.specs.Names.{Name, Names, Valuation, Variable, known, is_signal_sort}
+use Rattle.lv_ast.specs.Places.{Place, place_of, write_bits}
 use Rattle.lv_ast.specs.Values.{Meaning}
-use Rattle.lv_ast.specs.Meaning.{meaning, meant, read_select}
-use Rattle.lv_ast.specs.Effect.{Piece, pieces, piece_place, aimed, places, bits_in, write_all, assigned, State, Update, executes, applied, left_by}
+use Rattle.lv_ast.specs.Meaning.{meaning}
+use Rattle.lv_ast.specs.Effect.{pieces, aimed, places, bits_in, write_all, assigned, State, Update, executes, applied, left_by}
 use Rattle.lv_ast.proofs.Effects.{pieces-Name, run_all, executes-Later, executes-Block}
 use Rattle.leave.specs.declared.formula.Formula.{Formula}
 use Rattle.leave.specs.declared.formula.Formula.TheVariants.{Constant}
-use Rattle.leave.specs.FirstForm.{scope_of, one_bit, is_in, IsBitExpr, IsAssignment, assigns}
+use Rattle.leave.specs.FirstForm.{scope_of, one_bit, IsBitExpr, IsAssignment, assigns}
 use Rattle.leave.specs.Formulas.{truth}
-use Rattle.leave.specs.Signals.{env_of, AreBits, IsBitOf, AreNext, IsNext}
-use Rattle.leave.proofs.Numbering.{bytes_same, same_bytes, distinct-later, bit-below_two, bits-at}
+use Rattle.leave.specs.Signals.{env_of, AreBits, IsBitOf, IsNext}
+use Rattle.leave.proofs.Numbering.{bytes_same, same_bytes, distinct-later}
 use Rattle.leave.proofs.Joins.{in-at, plain_steps}
 
 -- ---- lists

@@ -1,7 +1,7 @@
 -- The list of all candidates of a problem: each register is equal, and the runs are aligned.
-use Rattle.std.proofs.Common.{◌≡◌, ℕ, zero, suc, ◌+◌, ◌<◌, ◌≤◌, ◌⊎◌, inl, inr, Bool, true, List, [], ◌∷◌, ◌++◌, length, map, refl, sym, ◌∙◌, ap, subst, arith, get_or, length-append, zero-add}
-use Rattle.std.specs.Prelude.{Option, Some, slice_get}
-use Rattle.std.specs.List.{All, range_with_len}
+use Rattle.std.proofs.Common.{◌≡◌, ℕ, suc, ◌+◌, ◌<◌, inl, inr, Bool, true, List, [], ◌∷◌, length, map, sym, ◌∙◌, ap, subst, arith, get_or, length-append, zero-add}
+use Rattle.std.specs.Prelude.{Some, slice_get}
+use Rattle.std.specs.List.{range_with_len}
 use Rattle.std.proofs.lemmas.Bool.{cases_lt}
 use Rattle.std.proofs.lemmas.List.{get_or_append_left}
 use Rattle.std.proofs.Math.Seq.{get_or-append_seam}
@@ -13,7 +13,7 @@ use Rattle.lv_model.specs.Machine.{Machine, AllHold, AreCandidates}
 use Rattle.lv_model.specs.Design.{Candidate, Eq, Aligned, MaybeHolds}
 use Rattle.leave.specs.declared.problem.Problem.{Problem}
 use Rattle.leave.specs.Formulas.{Assignment}
-use Rattle.leave.specs.Problems.{register, candidates_of, machine_of_problem, all_of}
+use Rattle.leave.specs.Problems.{register, candidates_of, machine_of_problem}
 use Rattle.leave.proofs.Alike.{from_bits}
 
 abbrev equal_registers : ℕ → List (Candidate Assignment)

@@ -1,6 +1,6 @@
 -- Lists of expressions with their formulas or registers, one more at the end.
-use Rattle.std.proofs.Common.{◌≡◌, ℕ, ◌<◌, ◌≤◌, Bool, true, false, List, [], ◌∷◌, ◌++◌, length, drop, take, ◌-◌, suc, get_or, refl, sym, ◌∙◌, ap, subst, arith}
-use Rattle.std.specs.Prelude.{Option, Some, None, IfSome, MatchOption, slice_get, bytes_eq, All, filter, not, cond}
+use Rattle.std.proofs.Common.{◌≡◌, ℕ, ◌<◌, ◌≤◌, Bool, true, false, List, [], ◌∷◌, ◌++◌, length, drop, take, ◌-◌, suc, get_or, sym, ◌∙◌, ap, subst, arith}
+use Rattle.std.specs.Prelude.{Option, Some, None, IfSome, MatchOption, slice_get, bytes_eq, All, filter, cond}
 use Rattle.std.specs.List.{IsDistinct, AllByRecursion, AllZip}
 use Rattle.std.proofs.lemmas.List.{take_all}
 use Rattle.std.proofs.lemmas.List.Elements.{All-push}
@@ -10,8 +10,7 @@ use Rattle.lv_ast.specs.declared.expr.Expr.{Expr}
 use Rattle.lv_ast.specs.declared.expr.Expr.TheVariants as e
 use Rattle.lv_ast.specs.Names.{Name, Names}
 use Rattle.leave.specs.declared.formula.Formula.{Formula}
-use Rattle.leave.specs.declared.formula.Formula.TheVariants as f
-use Rattle.leave.specs.FirstForm.{is_in, scope_of, IsBitExpr, name}
+use Rattle.leave.specs.FirstForm.{is_in, scope_of, name}
 use Rattle.leave.specs.Formulas.{truth, variable}
 use Rattle.leave.specs.Signals.{IsBitOf, AreBitsOf, AreVariablesOf, IsRegister}
 use Rattle.leave.proofs.Truths.{truth-Variable}

@@ -1,28 +1,24 @@
 -- What the items of a module leave, one after another.
-use Rattle.std.proofs.Common.{◌≡◌, ℕ, zero, suc, ◌+◌, ◌<◌, Bool, true, false, List, [], ◌∷◌, ◌++◌, length, refl, sym, ◌∙◌, ap, subst, arith}
-use Rattle.std.specs.Prelude.{Option, Some, None, slice_get, bytes_eq, All}
+use Rattle.std.proofs.Common.{◌≡◌, ℕ, Bool, true, false, List, [], ◌∷◌, ◌++◌, length, refl, sym, ◌∙◌, ap, subst, arith}
+use Rattle.std.specs.Prelude.{Some, None, slice_get, bytes_eq}
 use Rattle.std.specs.List.{IsDistinct, list_all}
 use Rattle.std.proofs.lemmas.List.Elements.{All-nil, All-head, All-push}
 use Rattle.std.proofs.lemmas.Grind.{flat_map-append}
 use Rattle.std.proofs.lemmas.Map.Keys.{IsDistinct-head, IsDistinct-tail, IsDistinct-cons}
 use Rattle.std.specs.List.{AllByRecursion}
 use Rattle.lv_bits.specs.Values.{bit}
-use Rattle.lv_ast.specs.declared.expr.Expr.{Expr}
-use Rattle.lv_ast.specs.declared.stmt.Ident.{Ident}
 use Rattle.lv_ast.specs.declared.stmt.Stmt.{Stmt}
 use Rattle.lv_ast.specs.declared.stmt.Stmt.TheVariants as b
 use Rattle.lv_ast.specs.declared.item.RegName.{RegName}
 use Rattle.lv_ast.specs.declared.item.Watch.{Watch}
-use Rattle.lv_ast.specs.declared.item.Watch.TheVariants as w
 use Rattle.lv_ast.specs.declared.item.Item.{Item}
 use Rattle.lv_ast.specs.declared.item.Item.TheVariants as i
-use Rattle.lv_ast.specs.Names.{Name, Names, Valuation}
-use Rattle.lv_ast.specs.Effect.{left_by}
+use Rattle.lv_ast.specs.Names.{Name, Names}
 use Rattle.leave.specs.declared.formula.Formula.{Formula}
 use Rattle.leave.specs.declared.formula.Formula.TheVariants.{Variable}
 use Rattle.leave.specs.FirstForm.{scope_of, after, body_in, clocked, is_bit_register, IsAssignment, IsBody, block, single, IsBitItem, declares, clocks}
 use Rattle.leave.specs.Formulas.{truth, variable}
-use Rattle.leave.specs.Signals.{env_of, AreBits, AreNext, IsNext, IsBodyNext, IsClockedBy, edges, AreItemsNext}
+use Rattle.leave.specs.Signals.{env_of, AreNext, IsNext, IsBodyNext, IsClockedBy, edges, AreItemsNext}
 use Rattle.leave.proofs.Truths.{truth-Variable}
 use Rattle.leave.proofs.Numbering.{env-bit}
 use Rattle.leave.proofs.Joins.{slice_get-left}

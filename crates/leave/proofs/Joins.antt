@@ -1,15 +1,14 @@
 -- One-bit expressions by their forms, as the reader of formulas meets them.
-use Rattle.std.proofs.Common.{◌≡◌, ℕ, zero, suc, ◌+◌, ◌<◌, Bool, true, false, ◌||◌, if◌then◌else◌, List, [], ◌∷◌, ◌++◌, length, refl, sym, ◌∙◌, ap, subst, arith}
+use Rattle.std.proofs.Common.{◌≡◌, ℕ, zero, suc, ◌+◌, Bool, true, false, ◌||◌, List, [], ◌∷◌, ◌++◌, length, refl, sym, ◌∙◌, ap, subst, arith}
 use Rattle.std.specs.Prelude.{Option, Some, None, IfSome, Result, Ok, Err, IfOk, slice_get, bytes_eq}
 use Rattle.lv_bits.specs.declared.op.Op.{Op}
 use Rattle.lv_bits.specs.declared.op.Op.TheVariants as o
 use Rattle.lv_ast.specs.declared.expr.Path.{Path}
 use Rattle.lv_ast.specs.declared.expr.Expr.{Expr}
 use Rattle.lv_ast.specs.declared.expr.Expr.TheVariants as e
-use Rattle.lv_ast.specs.Names.{Name, Names, Sort, Input, Variable, has_no_steps}
-use Rattle.leave.specs.FirstForm.{is_in, is_bitwise, one_bit, scope_of, IsBitExpr, name, inverse, joined}
-use Rattle.leave.specs.Formulas.{Truth, truth, variable, negated, both, either, differ}
-use Rattle.leave.specs.declared.formula.Formula.{Formula}
+use Rattle.lv_ast.specs.Names.{Name, Names, Input, Variable, has_no_steps}
+use Rattle.leave.specs.FirstForm.{is_in, scope_of, IsBitExpr, name, inverse, joined}
+use Rattle.leave.specs.Formulas.{Truth, truth, negated, both, either, differ}
 use Rattle.leave.specs.declared.formula.Formula.TheVariants as f
 use Rattle.leave.specs.Signals.{IsBitOf, IsSignal, IsJoinedBy, ands, ors, xors}
 use Rattle.leave.proofs.Truths.{truth-Variable}

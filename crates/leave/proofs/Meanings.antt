@@ -1,6 +1,6 @@
 -- What one-bit expressions mean.
-use Rattle.std.proofs.Common.{◌≡◌, ℕ, zero, suc, ◌+◌, ◌*◌, ◌/◌, ◌%◌, ◌^◌, ◌<◌, Bool, true, false, not, ◌&&◌, ◌||◌, List, [], ◌∷◌, map, refl, sym, ◌∙◌, ap, subst, arith}
-use Rattle.std.specs.Prelude.{Option, Some, None, slice_get, max, bit_and, bit_or, bit_xor}
+use Rattle.std.proofs.Common.{◌≡◌, ℕ, zero, suc, ◌+◌, ◌*◌, ◌/◌, ◌%◌, ◌^◌, ◌<◌, Bool, true, false, not, ◌&&◌, ◌||◌, List, [], ◌∷◌, refl, sym, ◌∙◌, ap, arith}
+use Rattle.std.specs.Prelude.{Some, slice_get, max}
 use Rattle.lv_bits.specs.declared.op.Op.{Op}
 use Rattle.lv_bits.specs.declared.op.Op.TheVariants as o
 use Rattle.lv_bits.specs.Values.{bit, unary_value, binary_value}
@@ -8,10 +8,10 @@ use Rattle.lv_ast.specs.declared.expr.Path.{Path}
 use Rattle.lv_ast.specs.declared.expr.Expr.{Expr}
 use Rattle.lv_ast.specs.declared.expr.Expr.TheVariants as e
 use Rattle.lv_ast.specs.Names.{Name, Names, Valuation, Sort, Input, Net, Variable, Clock, Constant, Index, Other, is_signal_sort, known}
-use Rattle.lv_ast.specs.Values.{Meaning, unary, binary, arithmetic}
-use Rattle.lv_ast.specs.Meaning.{Reading, reading, meaning, read_expr, own, named}
+use Rattle.lv_ast.specs.Values.{Meaning, binary, arithmetic}
+use Rattle.lv_ast.specs.Meaning.{reading, meaning, read_expr, own, named}
 use Rattle.lv_ast.proofs.Readings.{read-Name, read-Un, read-Bin}
-use Rattle.leave.specs.FirstForm.{one_bit, observed}
+use Rattle.leave.specs.FirstForm.{one_bit}
 use Rattle.leave.specs.Formulas.{Truth, same_bit, variable, negated, both, either, differ}
 use Rattle.leave.specs.Signals.{env_of, AreBits, IsBitOf}
 use Rattle.leave.proofs.Numbering.{env-bit, bits-at}

@@ -1,8 +1,8 @@
 -- Two machines that are one because what each says of its own valuations the other says of theirs.
 use Rattle.std.proofs.Common.{◌≡◌, ℕ, Bool, sym, subst, ap, ◌∙◌}
 use Rattle.std.specs.Prelude.{◌↔◌, List}
-use Rattle.lv_model.specs.Machine.{Machine, Carries, AreSame, Safe, IsInductive, Implies}
-use Rattle.lv_model.proofs.Transfer.{inductive_back, implies_back, safe_back}
+use Rattle.lv_model.specs.Machine.{Machine, Carries, IsInductive, Implies}
+use Rattle.lv_model.proofs.Transfer.{inductive_back, implies_back}
 
 pub record Mirrors {V W : Type 0} (m : Machine V) (n : Machine W) (to : V → W) (from : W → V) : Type 0 where
   pub settled : (v : V) → m.IsSettled v → n.IsSettled (to v)

@@ -1,18 +1,16 @@
 -- The parts of a prepared problem, put together.
-use Rattle.std.proofs.Common.{◌≡◌, ℕ, ◌+◌, ◌<◌, ◌≤◌, Bool, true, false, List, [], ◌∷◌, ◌++◌, length, refl, sym, ◌∙◌, ap, subst, arith}
-use Rattle.std.specs.Prelude.{bytes_eq, All, filter, not}
+use Rattle.std.proofs.Common.{◌≡◌, true, false, List, [], ◌++◌, sym, ◌∙◌, ap, subst}
+use Rattle.std.specs.Prelude.{bytes_eq, filter, not}
 use Rattle.std.specs.List.{IsDistinct, list_all}
-use Rattle.lv_bits.specs.Values.{bit}
 use Rattle.lv_ast.specs.declared.item.Aport.{Aport}
-use Rattle.lv_ast.specs.declared.item.Ports.{Ports}
 use Rattle.lv_ast.specs.declared.item.Ports.TheVariants as p
 use Rattle.lv_ast.specs.declared.item.Item.{Item}
 use Rattle.lv_ast.specs.declared.item.Module.{Module}
 use Rattle.lv_ast.specs.Names.{Name}
 use Rattle.leave.specs.declared.observed.ObserverTrees.{ObserverTrees}
 use Rattle.leave.specs.declared.problem.Problem.{Problem}
-use Rattle.leave.specs.FirstForm.{port_list, port_names, register_items, registers_of, inputs_of, clocked, is_in, is_bit_port, IsBitExpr, IsBitItem, IsLegal, AreObservers}
-use Rattle.leave.specs.Signals.{IsProblemOf, HasSignals, IsBuilt, IsPrepared}
+use Rattle.leave.specs.FirstForm.{port_list, port_names, register_items, registers_of, inputs_of, is_in, is_bit_port}
+use Rattle.leave.specs.Signals.{HasSignals, IsBuilt, IsPrepared}
 use Rattle.leave.proofs.Gathers.{distinct_filter}
 
 pub distinct_signals : (ports : List Aport) (items : List Item) (clock : Name) (Rs Is : List Name) → HasSignals ports items clock Rs Is → IsDistinct bytes_eq (Rs ++ Is)

@@ -1,10 +1,8 @@
 -- The machine of a design and that of its problem are one.
-use Rattle.std.proofs.Common.{◌≡◌, ℕ, zero, suc, ◌+◌, ◌<◌, ◌≤◌, ◌⊎◌, inl, inr, Bool, true, false, nat_eq, List, [], ◌∷◌, ◌++◌, length, map, refl, sym, ◌∙◌, ap, subst, arith, length-append, ◌-◌, get_or}
-use Rattle.std.specs.Prelude.{Option, Some, None, slice_get, bytes_eq, All, ◌↔◌, if◌then◌else◌}
-use Rattle.std.specs.List.{IsDistinct}
+use Rattle.std.proofs.Common.{◌≡◌, ℕ, zero, suc, ◌+◌, ◌≤◌, inl, inr, Bool, true, nat_eq, List, [], ◌∷◌, ◌++◌, length, map, refl, sym, ◌∙◌, ap, subst, arith, length-append, ◌-◌, get_or}
+use Rattle.std.specs.Prelude.{Some, None, slice_get, All, ◌↔◌, if◌then◌else◌}
 use Rattle.std.proofs.lemmas.Bool.{cases_lt}
-use Rattle.std.proofs.lemmas.List.{length-map}
-use Rattle.std.proofs.lemmas.List.Elements.{All-nil, All-cons, All-head, All-tail, All-append}
+use Rattle.std.proofs.lemmas.List.Elements.{All-nil, All-cons, All-head, All-tail}
 use Rattle.std.proofs.lemmas.Option.{slice_get_within, slice_get-get_or, slice_get_past}
 use Rattle.lv_bits.specs.Values.{bit}
 use Rattle.lv_ast.specs.declared.expr.Expr.{Expr}
@@ -12,22 +10,22 @@ use Rattle.lv_ast.specs.declared.stmt.Stmt.{Stmt}
 use Rattle.lv_ast.specs.Names.{Name, Names, Valuation}
 use Rattle.lv_ast.specs.Meaning.{own}
 use Rattle.lv_model.specs.Machine.{Machine}
-use Rattle.lv_model.specs.Design.{values, entry, row_of, Candidate, Eq, Aligned, MaybeHolds}
+use Rattle.lv_model.specs.Design.{values, Eq, Aligned, MaybeHolds}
 use Rattle.leave.specs.declared.formula.Formula.{Formula}
 use Rattle.leave.specs.declared.formula.Formula.TheVariants.{Constant}
 use Rattle.leave.specs.declared.observed.ObserverTrees.{ObserverTrees}
 use Rattle.leave.specs.declared.problem.Problem.{Problem}
 use Rattle.leave.specs.FirstForm as source
 use Rattle.leave.specs.FirstForm.{scope_of, observed, after, machine_of_parts, is_in}
-use Rattle.leave.specs.Formulas.{Assignment, Truth, truth, variable, IsZeroOutside}
+use Rattle.leave.specs.Formulas.{Assignment, truth, variable}
 use Rattle.leave.specs.Problems as problem
 use Rattle.leave.specs.Problems.{number, numbers, register, machine_of_problem}
-use Rattle.leave.specs.Signals.{env_of, val_of, AreBits, IsBitOf, AreBitsOf, AreVariablesOf, AreNext, IsProblemOf}
-use Rattle.leave.proofs.Numbering.{bit-of_one, one-of_bit, env-past, env-at, env-bit, bits-at, val-bits, val-else, env-returns, at_or_past}
+use Rattle.leave.specs.Signals.{env_of, val_of, AreBits, IsBitOf, AreBitsOf, AreVariablesOf, IsProblemOf}
+use Rattle.leave.proofs.Numbering.{env-past, env-at, env-bit, val-bits, val-else, env-returns, at_or_past}
 use Rattle.leave.proofs.Meanings.{own-bit}
 use Rattle.leave.proofs.Alike.{from_bits}
 use Rattle.leave.proofs.Candidates.{candidates-count, candidate-of_register, candidate-last}
-use Rattle.leave.proofs.Mirrors.{Mirrors, mirrored}
+use Rattle.leave.proofs.Mirrors.{Mirrors}
 
 -- ---- lists of names
 

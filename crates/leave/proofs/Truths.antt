@@ -1,10 +1,10 @@
 -- The truth of each form of a formula, and how truths simplify.
-use Rattle.std.proofs.Common.{◌≡◌, ℕ, ◌+◌, ◌<◌, Bool, true, false, not, ◌&&◌, ◌||◌, if◌then◌else◌, ◌==◌, refl, sym, ◌∙◌, ap, arith, nat_lt}
+use Rattle.std.proofs.Common.{◌≡◌, ℕ, ◌+◌, ◌<◌, Bool, true, false, not, ◌&&◌, ◌||◌, if◌then◌else◌, ◌==◌, refl, sym, ◌∙◌, ap, arith}
 use Rattle.leave.specs.declared.formula.Formula.{Formula, roll-Formula, map-Formula, fold-roll-Formula}
 use Rattle.leave.specs.declared.formula.Formula.TheVariants as f
 use Rattle.leave.specs.declared.formula.Formula.TheVariants.{rolls-Constant, rolls-Variable, rolls-Not, rolls-And, rolls-Or, rolls-Xor}
 use Rattle.leave.specs.declared.formula.Formula.TheOpen.{Formula-F}
-use Rattle.leave.specs.Formulas.{Assignment, Truth, same_bit, constant, variable, negated, both, either, differ, alike, implied, truth_step, truth, with_value, copy_of, fixing, in_copy}
+use Rattle.leave.specs.Formulas.{Truth, same_bit, constant, variable, negated, both, either, differ, alike, implied, truth_step, truth, copy_of, fixing, in_copy}
 
 pub funext : {A : Type 0} (s t : A → Bool) → ((x : A) → s x ≡ t x) → s ≡ t
 funext s t h = λ i x. h x i

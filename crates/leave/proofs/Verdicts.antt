@@ -1,23 +1,21 @@
 -- The verdict on a module from the verdict on its problem.
-use Rattle.std.proofs.Common.{◌≡◌, ℕ, suc, ◌<◌, Bool, true, false, List, [], ◌∷◌, ◌++◌, length, refl, sym, ◌∙◌, ap, subst, arith}
-use Rattle.std.specs.Prelude.{All, ◌↔◌, IsTrue}
+use Rattle.std.proofs.Common.{◌≡◌, ℕ, suc, ◌<◌, List, [], ◌∷◌, ◌++◌, refl, sym, ap, subst, arith}
+use Rattle.std.specs.Prelude.{All, ◌↔◌}
 use Rattle.std.specs.List.{range_with_len}
 use Rattle.std.proofs.lemmas.List.Elements.{All-nil, All-cons}
 use Rattle.lv_ast.specs.declared.item.Module.{Module}
-use Rattle.lv_ast.specs.declared.stmt.Stmt.{Stmt}
 use Rattle.lv_ast.specs.Names.{Name, Valuation}
 use Rattle.lv_io.specs.declared.shelf.ShelfError.TheVariants as s
-use Rattle.lv_model.specs.Machine.{Machine, IsInitial, IsMet, Initial, Allowed, IsInductive, Implies}
+use Rattle.lv_model.specs.Machine.{Machine, IsMet, Initial, Allowed, IsInductive, Implies}
 use Rattle.lv_model.proofs.Soundness.{sound}
-use Rattle.leave.specs.declared.answer.Answer.{Answer}
 use Rattle.leave.specs.declared.answer.Answer.TheVariants as a
 use Rattle.leave.specs.declared.contract_file.ContractTexts.{ContractTexts}
 use Rattle.leave.specs.declared.observed.ObserverTrees.{ObserverTrees}
 use Rattle.leave.specs.declared.problem.Problem.{Problem}
-use Rattle.leave.specs.Answers.{machine_of, all_candidates, IsProved, IsUnproved, IsVerdict, proved, unproved_one, IsRefusal, is_missing, is_long, is_fault, is_memory}
+use Rattle.leave.specs.Answers.{machine_of, all_candidates, IsVerdict, proved, unproved_one, IsRefusal, is_missing, is_long, is_fault}
 use Rattle.leave.specs.FirstForm.{registers_of, inputs_of, clocked}
 use Rattle.leave.specs.Problems.{machine_of_problem, all_of}
-use Rattle.leave.specs.Signals.{env_of, val_of, IsProblemOf, IsPrepared}
+use Rattle.leave.specs.Signals.{env_of, val_of, IsPrepared}
 use Rattle.leave.proofs.Sameness.{mirrors}
 use Rattle.leave.proofs.Mirrors.{mirrored}
 

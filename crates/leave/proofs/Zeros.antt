@@ -1,5 +1,5 @@
 -- The truth of each form of a formula where every variable is false.
-use Rattle.std.proofs.Common.{◌≡◌, ℕ, Bool, true, false, not, ◌&&◌, ◌||◌, refl, sym, ◌∙◌, ap}
+use Rattle.std.proofs.Common.{◌≡◌, ℕ, Bool, false, not, ◌&&◌, ◌||◌, ap}
 use Rattle.leave.specs.declared.formula.Formula.{Formula}
 use Rattle.leave.specs.declared.formula.Formula.TheVariants as f
 use Rattle.leave.specs.Formulas.{same_bit, constant, variable, negated, both, either, differ, truth, at_zero}

@@ -1,12 +1,11 @@
 -- What a run answers, when each answer comes, and its text.
-use Rattle.std.specs.Prelude.{◌≡◌, ◌≢◌, ℕ, suc, ◌≤◌, ◌⊎◌, Bool, false, not, ◌==◌, List, [], ◌∷◌, ◌++◌, length, flat_map, Option, Some, None, codes, decimal, IsUtf8, IfSome, IsTrue}
+use Rattle.std.specs.Prelude.{◌≡◌, ℕ, suc, ◌≤◌, ◌⊎◌, Bool, false, not, ◌==◌, List, [], ◌∷◌, ◌++◌, length, flat_map, Option, Some, codes, decimal, IsUtf8, IfSome, IsTrue}
 use Rattle.std.specs.List.{AllZip, range_with_len}
 use Rattle.lv_io.specs.declared.shelf.ShelfError.{ShelfError}
 use Rattle.lv_io.specs.declared.shelf.ShelfError.TheVariants as s
 use Rattle.lv_io.specs.Causes.{Rose}
 use Rattle.lv_io.specs.Files.{Files, HoldsFile, IsAbsent, IsLonger}
 use Rattle.lv_io.specs.Given.{Gains, GainsPart}
-use Rattle.lv_ast.specs.declared.expr.Expr.{Expr}
 use Rattle.lv_ast.specs.declared.item.Module.{Module}
 use Rattle.lv_ast.specs.Names.{Name}
 use Rattle.lv_ast.specs.Sources.{source_text}

@@ -1,5 +1,5 @@
 -- The machine of a problem, and the formulas that decide its list of all candidates.
-use Rattle.std.specs.Prelude.{◌≡◌, ℕ, zero, suc, ◌+◌, ◌<◌, ◌≤◌, Bool, true, List, [], ◌∷◌, ◌++◌, map, slice_get, Option, Some}
+use Rattle.std.specs.Prelude.{◌≡◌, ℕ, zero, suc, ◌+◌, ◌≤◌, true, List, [], ◌∷◌, ◌++◌, map, slice_get, Some}
 use Rattle.std.specs.List.{range_with_len}
 use Rattle.lv_bits.specs.Values.{bit}
 use Rattle.lv_model.specs.Machine.{Machine}

@@ -1,5 +1,5 @@
 -- The signals of a design as numbered variables: registers first, then inputs.
-use Rattle.std.specs.Prelude.{◌≡◌, ℕ, zero, suc, ◌<◌, ◌≤◌, Bool, false, if◌then◌else◌, nat_eq, List, [], ◌∷◌, ◌++◌, length, bytes_eq, Option, Some, None, All, slice_get, filter, not, true}
+use Rattle.std.specs.Prelude.{◌≡◌, ℕ, zero, suc, ◌<◌, ◌≤◌, Bool, false, if◌then◌else◌, nat_eq, List, [], ◌∷◌, ◌++◌, length, bytes_eq, Some, None, All, slice_get, filter, not, true}
 use Rattle.std.specs.List.{IsDistinct}
 use Rattle.lv_bits.specs.Values.{bit}
 use Rattle.lv_ast.specs.declared.expr.Expr.{Expr}

@@ -1,5 +1,5 @@
 -- What a text spells: its tokens by longest match, in a design as the directives leave them; and why it has none.
-use Rattle.std.specs.Prelude.{◌≡◌, ℕ, ◌<◌, List, [], Option, Some, None}
+use Rattle.std.specs.Prelude.{◌≡◌, ℕ, ◌<◌, List, [], Some, None}
 use Rattle.lv_ast.specs.TokenLists.{IsTokenListOf, BeginsWithMore, IsBadByte, IsBadLiteral, IsUnclosed}
 use Rattle.lv_ast.specs.Folds.{Stop, UnknownMacro, Unbalanced, Malformed, Depth, reading_of, counted}
 use Rattle.lv_ast.specs.declared.tokens.Token.{Token}

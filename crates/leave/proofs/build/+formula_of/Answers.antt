@@ -1,7 +1,6 @@
-use Rattle.std.proofs.Common.{◌≡◌, ◌++◌, sym, ◌∙◌, ap, subst}
+use Rattle.std.proofs.Common.{◌≡◌, ◌++◌, subst}
 use Rattle.lv_bits.specs.declared.op.Op.TheVariants as o
 use Rattle.lv_ast.specs.declared.expr.Expr.{Expr}
-use Rattle.lv_ast.specs.declared.expr.Expr.TheVariants as e
 use Rattle.leave.specs.FirstForm.{scope_of}
 use Rattle.leave.specs.Formulas.{truth, negated}
 use Rattle.leave.specs.Signals.{IsJoinedBy}

@@ -1,4 +1,4 @@
-use Rattle.std.proofs.Common.{◌≡◌, sym, ◌∙◌, subst}
+use Rattle.std.proofs.Common.{sym, subst}
 use Rattle.std.specs.Prelude.{Option}
 use Rattle.lv_io.specs.Files.{Files, HoldsFile}
 use Rattle.leave.specs.Answers.{contract}

@@ -1,4 +1,4 @@
-use Rattle.std.proofs.Common.{◌≡◌, List, ℕ, sym, subst}
+use Rattle.std.proofs.Common.{sym, subst}
 use Rattle.lv_io.specs.Files.{HoldsFile}
 use Rattle.leave.specs.Answers.{design}
 use Rattle.leave.proofs.Answering.{refused_is, judged_is}

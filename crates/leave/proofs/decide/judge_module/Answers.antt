@@ -1,4 +1,4 @@
-use Rattle.std.proofs.Common.{◌≡◌, sym, ◌∙◌, true, false, subst}
+use Rattle.std.proofs.Common.{◌≡◌, true}
 use Rattle.leave.specs.Answers.{not_of_form}
 use Rattle.leave.proofs.Verdicts.{verdict_yes, verdict_no}
 use Rattle.leave.proofs.decide.judge_module.Goals as goal

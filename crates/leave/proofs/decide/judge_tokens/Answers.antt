@@ -1,4 +1,4 @@
-use Rattle.leave.specs.Answers.{spelled, not_spelled}
+use Rattle.leave.specs.Answers.{spelled}
 use Rattle.leave.proofs.decide.judge_tokens.Goals as goal
 
 pub returns : goal.returns

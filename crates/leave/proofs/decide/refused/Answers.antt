@@ -1,4 +1,4 @@
-use Rattle.std.proofs.Common.{◌≡◌, sym, subst}
+use Rattle.std.proofs.Common.{sym, subst}
 use Rattle.lv_io.specs.declared.shelf.ShelfError.{ShelfError}
 use Rattle.leave.specs.declared.answer.Answer.TheVariants as a
 use Rattle.leave.specs.Answers.{IsRefusal, is_memory}

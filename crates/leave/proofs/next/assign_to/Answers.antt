@@ -1,4 +1,4 @@
-use Rattle.std.proofs.Common.{rules, ◌≡◌, ◌++◌, refl, sym, ◌∙◌, ap, subst, Some, IsTrue}
+use Rattle.std.proofs.Common.{rules, ◌≡◌, ◌++◌, sym, subst, Some, IsTrue}
 use Rattle.std.specs.Prelude.{slice_get}
 use Rattle.leave.specs.FirstForm.{scope_of}
 use Rattle.leave.specs.Formulas.{truth}

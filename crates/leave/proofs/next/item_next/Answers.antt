@@ -1,10 +1,10 @@
-use Rattle.std.proofs.Common.{rules, ◌≡◌, ◌∷◌, ◌++◌, [], List, true, false, sym, ◌∙◌, ap, subst}
-use Rattle.std.specs.Prelude.{None, IsTrue}
+use Rattle.std.proofs.Common.{rules, ◌≡◌, ◌∷◌, ◌++◌, [], true, false, sym, ◌∙◌, ap, subst}
+use Rattle.std.specs.Prelude.{None}
 use Rattle.std.specs.List.{list_all}
 use Rattle.lv_ast.specs.declared.item.Item.{Item}
 use Rattle.lv_ast.specs.declared.item.Item.TheVariants as i
 use Rattle.leave.specs.FirstForm.{is_bit_register}
-use Rattle.leave.specs.Signals.{IsNext, IsBodyNext, IsClockedBy, AreItemsNext}
+use Rattle.leave.specs.Signals.{IsClockedBy, AreItemsNext}
 use Rattle.leave.proofs.Items.{begun_next, items_with_register, items_with_block}
 use Rattle.leave.proofs.next.item_next.Goals as goal
 

@@ -1,4 +1,4 @@
-use Rattle.std.proofs.Common.{◌≡◌, ◌∙◌, length}
+use Rattle.std.proofs.Common.{◌∙◌}
 use Rattle.leave.proofs.Items.{items_begin}
 use Rattle.leave.proofs.next.items_next.Goals as goal
 

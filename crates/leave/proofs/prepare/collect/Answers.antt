@@ -1,7 +1,6 @@
-use Rattle.std.proofs.Common.{◌≡◌, ◌++◌, false, sym, ◌∙◌, ap, subst, Some}
+use Rattle.std.proofs.Common.{◌≡◌, ◌++◌, false, ◌∙◌, ap, subst, Some}
 use Rattle.std.specs.Prelude.{slice_get, filter, not, bytes_eq}
 use Rattle.std.specs.List.{IsDistinct}
-use Rattle.lv_ast.specs.Names.{Name}
 use Rattle.leave.specs.FirstForm.{port_names, register_items}
 use Rattle.leave.proofs.Joins.{in-at}
 use Rattle.leave.proofs.prepare.collect.Goals as goal

@@ -1,9 +1,5 @@
-use Rattle.std.proofs.Common.{rules, ◌≡◌, ◌++◌, [], ℕ, sym, ◌∙◌, ap, subst, IsTrue, Some}
-use Rattle.std.specs.Prelude.{slice_get, MatchOption, Option}
-use Rattle.lv_ast.specs.Names.{Name}
-use Rattle.lv_ast.specs.declared.expr.Expr.{Expr}
+use Rattle.std.proofs.Common.{rules, ◌≡◌, [], ◌∙◌, ap, IsTrue}
 use Rattle.lv_ast.specs.declared.expr.Expr.TheVariants as e
-use Rattle.leave.specs.Signals.{IsRegister}
 use Rattle.leave.proofs.Gathers.{register_found}
 use Rattle.leave.proofs.prepare.register_of.Goals as goal
 

@@ -1,6 +1,4 @@
-use Rattle.std.proofs.Common.{◌≡◌, ◌++◌, List, sym, ◌∙◌, ap, subst}
-use Rattle.std.specs.Prelude.{bytes_eq}
-use Rattle.std.specs.List.{IsDistinct}
+use Rattle.std.proofs.Common.{List, sym, ◌∙◌, subst}
 use Rattle.lv_ast.specs.declared.item.Item.{Item}
 use Rattle.leave.specs.Signals.{HasSignals, IsBuilt}
 use Rattle.leave.proofs.Prepared.{prepared}

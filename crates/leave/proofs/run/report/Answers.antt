@@ -1,4 +1,4 @@
-use Rattle.std.proofs.Common.{◌≡◌, ℕ, List, refl, sym, ◌∙◌, subst}
+use Rattle.std.proofs.Common.{ℕ, List, refl, sym, ◌∙◌, subst}
 use Rattle.lv_io.specs.Given.{Gains, GainsPart}
 use Rattle.leave.specs.Answers.{IsReported, told, cut, unwritten}
 use Rattle.leave.proofs.run.report.Goals as goal

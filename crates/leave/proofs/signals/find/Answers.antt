@@ -1,4 +1,4 @@
-use Rattle.std.proofs.Common.{◌≡◌, refl, sym, ◌∙◌, ap, Some, length}
+use Rattle.std.proofs.Common.{refl, sym, ◌∙◌, ap, Some, length}
 use Rattle.std.proofs.lemmas.Option.{slice_get_read}
 use Rattle.leave.proofs.Numbering.{bytes_same}
 use Rattle.leave.proofs.signals.find.Goals as goal

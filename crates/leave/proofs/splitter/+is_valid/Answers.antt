@@ -1,4 +1,4 @@
-use Rattle.std.proofs.Common.{rules, ◌≡◌, ℕ, ◌+◌, ◌<◌, ◌≤◌, arith, sym, ◌∙◌, ap}
+use Rattle.std.proofs.Common.{rules, arith, ◌∙◌, ap}
 use Rattle.leave.specs.Formulas.{truth}
 use Rattle.leave.proofs.Truths.{truth-Constant}
 use Rattle.leave.proofs.Splits.{decided_at_end, decided_constant, refuted_low, decided_high}

@@ -1,4 +1,4 @@
-use Rattle.std.proofs.Common.{ℕ, ◌-◌}
+use Rattle.std.proofs.Common.{◌-◌}
 use Rattle.leave.proofs.splitter.+is_valid.Given as goal
 
 abbrev pub decreases-is_valid : goal.decreases-is_valid

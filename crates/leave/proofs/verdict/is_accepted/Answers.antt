@@ -1,4 +1,4 @@
-use Rattle.std.proofs.Common.{◌≡◌, ℕ, suc, refl, arith, length}
+use Rattle.std.proofs.Common.{◌≡◌, suc, refl, arith, length}
 use Rattle.leave.specs.declared.problem.Problem.{Problem}
 use Rattle.leave.proofs.Acceptance.{accepted_by}
 use Rattle.leave.proofs.verdict.is_accepted.Goals as goal

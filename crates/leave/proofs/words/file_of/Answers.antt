@@ -1,6 +1,5 @@
-use Rattle.std.proofs.Common.{rules, ◌≡◌, ◌∷◌, [], List, IsTrue, sym, ◌∙◌, ap, subst, length, arith}
+use Rattle.std.proofs.Common.{◌≡◌, ◌∷◌, [], sym, ◌∙◌, ap}
 use Rattle.std.specs.Prelude.{codes}
-use Rattle.leave.specs.Answers.{AsksFor}
 use Rattle.leave.proofs.WordLists.{two_of}
 use Rattle.leave.proofs.Numbering.{bytes_same}
 use Rattle.leave.proofs.words.file_of.Goals as goal

@@ -1,4 +1,4 @@
-use Rattle.std.proofs.Common.{rules, ◌≡◌, ◌+◌, refl, sym, ◌∙◌, ap, subst, Some, length, arith, IsTrue, false}
+use Rattle.std.proofs.Common.{rules, ◌≡◌, subst, Some, arith, IsTrue, false}
 use Rattle.std.specs.Prelude.{slice_get}
 use Rattle.leave.specs.FirstForm.{is_in}
 use Rattle.leave.proofs.Joins.{register_signal, input_signal}

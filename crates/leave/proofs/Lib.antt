@@ -19,4 +19,6 @@ pub mod Answering
 pub mod Refusals
 pub mod WordLists
 pub mod Spellings
+pub mod Tails
+pub mod ExpressionTexts
 pub mod ContractTexts

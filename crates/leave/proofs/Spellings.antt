@@ -1,13 +1,10 @@
 -- How spellings grow, from equations on what is read.
-use Rattle.std.proofs.Common.{◌≡◌, ℕ, ◌+◌, ◌≤◌, List, [], ◌∷◌, ◌++◌, slice_range, codes, refl, arith}
-use Rattle.lv_bits.specs.declared.op.Op.{Op}
-use Rattle.lv_bits.specs.declared.op.Op.TheVariants as o
+use Rattle.std.proofs.Common.{◌≡◌, ℕ, false, List, [], ◌∷◌, ◌++◌, slice_range, codes, refl}
 use Rattle.lv_ast.specs.declared.tokens.Kind.{Kind}
 use Rattle.lv_ast.specs.declared.tokens.Kind.TheVariants as k
 use Rattle.lv_ast.specs.declared.tokens.Token.{Token}
 use Rattle.lv_ast.specs.declared.stmt.Ident.{Ident}
 use Rattle.lv_ast.specs.declared.expr.Expr.{Expr}
-use Rattle.lv_ast.specs.declared.expr.Expr.TheVariants as e
 use Rattle.lv_ast.specs.declared.expr.Path.{Path}
 use Rattle.lv_ast.specs.declared.expr.Select.{Select}
 use Rattle.lv_ast.specs.declared.stmt.Target.{Target}
@@ -21,7 +18,7 @@ use Rattle.lv_ast.specs.declared.item.Params.{Params}
 use Rattle.lv_ast.specs.declared.item.Ports.TheVariants as p
 use Rattle.lv_ast.specs.declared.item.Item.TheVariants as i
 use Rattle.lv_ast.specs.declared.item.Watch.TheVariants as w
-use Rattle.leave.specs.Spelling.{SpellsToken, token, SpellsMark, SpellsIdent, simple, SpellsIdents, one_name, more_names, SpellsStmt, SpellsStmts, no_stmts, more_stmts, SpellsAport, SpellsAports, one_port, more_ports, SpellsRegNames, one_reg, more_regs, SpellsRegName, SpellsItem, SpellsItems, no_items, more_items, level_of, mark_of, path_of, place_of, SpellsWord, SpellsExpr, name, inverted, binary, SpellsTarget, target, later, SpellsPosedge, always, SpellsPorts, SpellsModule, «module»}
+use Rattle.leave.specs.Spelling.{SpellsToken, token, SpellsMark, SpellsIdent, simple, SpellsIdents, one_name, more_names, SpellsStmt, SpellsStmts, no_stmts, more_stmts, SpellsAport, SpellsAports, one_port, more_ports, SpellsRegNames, one_reg, more_regs, SpellsRegName, SpellsItem, SpellsItems, no_items, more_items, path_of, place_of, SpellsWord, SpellsExpr, SpellsTarget, target, later, SpellsPosedge, always, SpellsPorts, SpellsModule, «module»}
 
 pub token_at_front :
     {text bytes : List ℕ} {kind : Kind} {ts rest : List Token} (t : Token) →
@@ -81,38 +78,14 @@ pub next_item :
     ys ≡ xs ++ x ∷ [] → SpellsItems text xs ts a → SpellsItem text x a rest → SpellsItems text ys ts rest
 next_item e h h' = rw e (more_items h h')
 
--- a binary operator binds no tighter than an operand
-pub level_below_operand : (op : Op) → level_of op + 1 ≤ 12
-level_below_operand o.Or = omega arith
-level_below_operand o.Xor = omega arith
-level_below_operand o.And = omega arith
-level_below_operand _ = omega arith
-
 pub target_at :
     {text : List ℕ} {n : Ident} {path : Path} {selects : List Select} {ts rest : List Token} →
     path ≡ path_of n → selects ≡ [] → SpellsIdent text n ts rest → SpellsTarget text (t.Name path selects) ts rest
 target_at e f h = rw e (rw f (target h))
 
-pub name_at :
-    {text : List ℕ} {n : Ident} {x : Expr} {ts rest : List Token} →
-    x ≡ e.Name (path_of n) [] → SpellsIdent text n ts rest → SpellsExpr text 12 x ts rest
-name_at e h = rw e (name h)
-
-pub inverted_at :
-    {text : List ℕ} {x y : Expr} {ts a rest : List Token} →
-    y ≡ e.Un o.Not x → SpellsMark text (codes "~") ts a → SpellsExpr text 12 x a rest → SpellsExpr text 12 y ts rest
-inverted_at e m h = rw e (inverted m h)
-
-pub binary_at :
-    {text bytes : List ℕ} {op : Op} {x y z : Expr} {ts a b rest : List Token} →
-    z ≡ e.Bin op x y → bytes ≡ mark_of op → 2 ≤ level_of op →
-    SpellsExpr text (level_of op) x ts a → SpellsMark text bytes a b → SpellsExpr text (level_of op + 1) y b rest → SpellsExpr text (level_of op) z ts rest
-binary_at {text} {bytes} {op} {x} {y} {z} {ts} {a} {b} {rest} e f l h m h' =
-    let m' : SpellsMark text (mark_of op) a b = rw f at m in rw e (binary l h m' h')
-
 pub later_at :
     {text : List ℕ} {place : ℕ} {x : Target} {y : Expr} {ts a b c rest : List Token} →
-    place ≡ place_of ts → SpellsTarget text x ts a → SpellsMark text (codes "<=") a b → SpellsExpr text 1 y b c → SpellsMark text (codes ";") c rest →
+    place ≡ place_of ts → SpellsTarget text x ts a → SpellsMark text (codes "<=") a b → SpellsExpr text false y b c → SpellsMark text (codes ";") c rest →
     SpellsStmt text (s.Later x y place) ts rest
 later_at e h m h' m' = rw e (later h m h' m')
 

@@ -4,5 +4,6 @@ pub mod Problems
 pub mod FirstForm
 pub mod Signals
 pub mod Spelling
+pub mod Tails
 pub mod Texts
 pub mod Answers

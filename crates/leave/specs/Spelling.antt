@@ -1,13 +1,10 @@
 -- How a module is spelled (IEEE 1364-2005, annex A), as far as the first form of designs goes. Each relation is between a tree,
 -- the tokens that begin with its spelling, and the tokens behind it.
-use Rattle.std.specs.Prelude.{◌≡◌, ℕ, ◌+◌, ◌≤◌, List, [], ◌∷◌, ◌++◌, true, false, None, slice_range, codes}
-use Rattle.lv_bits.specs.declared.op.Op.{Op}
-use Rattle.lv_bits.specs.declared.op.Op.TheVariants as o
+use Rattle.std.specs.Prelude.{◌≡◌, ℕ, Bool, List, [], ◌∷◌, ◌++◌, true, false, None, slice_range, codes}
 use Rattle.lv_ast.specs.declared.tokens.Kind.{Kind}
 use Rattle.lv_ast.specs.declared.tokens.Kind.TheVariants as k
 use Rattle.lv_ast.specs.declared.tokens.Token.{Token}
 use Rattle.lv_ast.specs.declared.expr.Expr.{Expr}
-use Rattle.lv_ast.specs.declared.expr.Expr.TheVariants as e
 use Rattle.lv_ast.specs.declared.expr.Path.{Path}
 use Rattle.lv_ast.specs.declared.stmt.Ident.{Ident}
 use Rattle.lv_ast.specs.declared.stmt.Target.{Target}
@@ -22,6 +19,10 @@ use Rattle.lv_ast.specs.declared.item.Watch.TheVariants as w
 use Rattle.lv_ast.specs.declared.item.Item.{Item}
 use Rattle.lv_ast.specs.declared.item.Item.TheVariants as i
 use Rattle.lv_ast.specs.declared.item.Module.{Module}
+use Rattle.lv_exprs.specs.Symbols.{symbols}
+use Rattle.lv_exprs.specs.Forms.{Form, IsExpr, is_free}
+use Rattle.lv_exprs.specs.Forms as forms
+use Rattle.lv_exprs.specs.Trees.{tree}
 
 -- ---- tokens
 
@@ -56,32 +57,17 @@ pub data SpellsIdents (text : List ℕ) : List Ident → List Token → List Tok
 abbrev pub path_of : Ident → Path
 path_of i = record { steps = []; name = i.name; place = i.place }
 
--- ---- expressions (A.8.3, A.8.4 and A.8.6; table 5-4)
+-- ---- expressions (A.8.3, A.8.4 and A.8.6)
 
--- how tightly a binary operator binds
-abbrev pub level_of : Op → ℕ
-level_of o.Or = 4
-level_of o.Xor = 5
-level_of o.And = 6
-level_of _ = 0
-
-abbrev pub mark_of : Op → List ℕ
-mark_of o.Or = codes "|"
-mark_of o.Xor = codes "^"
-mark_of o.And = codes "&"
-mark_of _ = []
-
--- an expression that binds at least as tightly as a level: 1 any, 2 to 11 binary ones, 12 unary ones and operands
-pub data SpellsExpr (text : List ℕ) : ℕ → Expr → List Token → List Token → Type 0 where
-  name : {i : Ident} {ts rest : List Token} → SpellsIdent text i ts rest → SpellsExpr text 12 (e.Name (path_of i) []) ts rest
-  parens : {x : Expr} {ts a b rest : List Token} →
-      SpellsMark text (codes "(") ts a → SpellsExpr text 1 x a b → SpellsMark text (codes ")") b rest → SpellsExpr text 12 x ts rest
-  inverted : {x : Expr} {ts a rest : List Token} →
-      SpellsMark text (codes "~") ts a → SpellsExpr text 12 x a rest → SpellsExpr text 12 (e.Un o.Not x) ts rest
-  binary : {op : Op} {x y : Expr} {ts a b rest : List Token} →
-      2 ≤ level_of op → SpellsExpr text (level_of op) x ts a → SpellsMark text (mark_of op) a b → SpellsExpr text (level_of op + 1) y b rest →
-      SpellsExpr text (level_of op) (e.Bin op x y) ts rest
-  tighter : {j k : ℕ} {x : Expr} {ts rest : List Token} → j ≤ k → SpellsExpr text k x ts rest → SpellsExpr text j x ts rest
+-- an expression, with steps in its names where they are allowed. A literal with free bits is none here
+pub record SpellsExpr (text : List ℕ) (paths : Bool) (x : Expr) (ts rest : List Token) : Type 0 where
+  pub own : List Token
+  pub split : ts ≡ own ++ rest
+  pub form : Form
+  pub expr : IsExpr paths form
+  pub sure : is_free form ≡ false
+  pub spells : forms.text form ≡ symbols text own
+  pub tree : tree text form ≡ x
 
 -- ---- statements (A.6)
 
@@ -93,7 +79,7 @@ mutual
   pub data SpellsStmt (text : List ℕ) : Stmt → List Token → List Token → Type 0 where
     -- nonblocking_assignment ::= variable_lvalue <= expression
     later : {x : Target} {y : Expr} {ts a b c rest : List Token} →
-        SpellsTarget text x ts a → SpellsMark text (codes "<=") a b → SpellsExpr text 1 y b c → SpellsMark text (codes ";") c rest →
+        SpellsTarget text x ts a → SpellsMark text (codes "<=") a b → SpellsExpr text false y b c → SpellsMark text (codes ";") c rest →
         SpellsStmt text (s.Later x y (place_of ts)) ts rest
     -- seq_block ::= begin { statement } end
     block : {ss : List Stmt} {ts a b rest : List Token} →

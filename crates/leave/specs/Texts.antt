@@ -1,5 +1,5 @@
 -- What a text spells: its tokens by longest match, in a design as the directives leave them; and why it has none.
-use Rattle.std.specs.Prelude.{◌≡◌, ℕ, ◌<◌, List, [], Some, None}
+use Rattle.std.specs.Prelude.{◌≡◌, ℕ, ◌<◌, true, List, [], Some, None}
 use Rattle.lv_ast.specs.TokenLists.{IsTokenListOf, BeginsWithMore, IsBadByte, IsBadLiteral, IsUnclosed}
 use Rattle.lv_ast.specs.Folds.{Stop, UnknownMacro, Unbalanced, Malformed, Depth, reading_of, counted}
 use Rattle.lv_ast.specs.declared.tokens.Token.{Token}
@@ -13,7 +13,7 @@ use Rattle.leave.specs.Spelling.{SpellsExpr, IsModuleOf}
 pub record IsExpressionText (bytes : List ℕ) (x : Expr) : Type 0 where
   pub tokens : List Token
   pub listed : IsTokenListOf bytes tokens
-  pub spelled : SpellsExpr bytes 1 x tokens []
+  pub spelled : SpellsExpr bytes true x tokens []
 
 -- the directives leave these tokens of the text
 pub record IsFolded (text : List ℕ) (folded : List Token) : Type 0 where

@@ -1,6 +1,6 @@
 //! A design of one module without parameters (IEEE 1364-2005, annex A.1.2).
 
-ghost use Rattle.std.specs.Prelude.{IfOk, IfSome};
+ghost use Rattle.std.specs.Prelude.{◌≡◌, IfOk, IfSome};
 ghost use Rattle.leave.specs.Spelling.{SpellsModule, IsModuleOf};
 
 use crate::module_items::items;
@@ -28,17 +28,14 @@ fn has_many_blocks(items: &[Item]) -> bool {
     false
 }
 
-fn module<'a>(
-    alloc: Global,
-    text: &[u8],
-    tokens: &'a [Token],
-) -> Result<(Module, &'a [Token]), Unread>
-    ensures { IfOk result (λ r. SpellsModule text.now r.0 tokens.now r.1.now) }
+fn module<'a>(alloc: Global, text: &[u8], all: &'a Tokens) -> Result<(Module, &'a [Token]), Unread>
+    requires { all.now.text ≡ text.now }
+    ensures { IfOk result (λ r. SpellsModule text.now r.0 all.now.list r.1.now) }
 {
-    let start = word(text, tokens, b"module")?;
+    let start = word(text, all.list.as_slice(), b"module")?;
     let (name, header) = ident(alloc, text, start)?;
     let (ports, body) = ports(alloc, text, header)?;
-    let (items, last) = items(alloc, text, body)?;
+    let (items, last) = items(alloc, text, all, body)?;
     let rest = word(text, last, b"endmodule")?;
     if has_many_blocks(items.as_slice()) {
         return Err(Unread::Unbuilt);
@@ -53,10 +50,11 @@ fn module<'a>(
 }
 
 /// The module that spells all of the tokens.
-fn whole_module(alloc: Global, text: &[u8], tokens: &[Token]) -> Result<Module, Unread>
-    ensures { IfOk result (λ m. IsModuleOf text.now tokens.now m) }
+fn whole_module(alloc: Global, text: &[u8], all: &Tokens) -> Result<Module, Unread>
+    requires { all.now.text ≡ text.now }
+    ensures { IfOk result (λ m. IsModuleOf text.now all.now.list m) }
 {
-    let (module, rest) = module(alloc, text, tokens)?;
+    let (module, rest) = module(alloc, text, all)?;
     if !rest.is_empty() {
         return Err(Unread::Unbuilt);
     }
@@ -65,11 +63,11 @@ fn whole_module(alloc: Global, text: &[u8], tokens: &[Token]) -> Result<Module, 
 
 /// The module that spells the tokens: none where they aren't one module without parameters, whose ports are each `input` or
 /// `output reg`, whose items are registers of one bit and at most one `always @(posedge ..)` of nonblocking assignments to
-/// names, and whose expressions have names, `~`, `&`, `|`, `^` and parentheses, at most 200 deep.
+/// names, and whose expressions are no literals and at most 200 high.
 pub(crate) fn read_module(alloc: Global, tokens: &Tokens) -> Result<Option<Module>, NoMemory>
     ensures { IfOk result (λ m. IfSome m (λ m. IsModuleOf tokens.now.text tokens.now.list m)) }
 {
-    match whole_module(alloc, tokens.text.bytes(), tokens.list.as_slice()) {
+    match whole_module(alloc, tokens.text.bytes(), tokens) {
         Ok(module) => Ok(Some(module)),
         Err(Unread::Unbuilt) => Ok(None),
         Err(Unread::NoMemory) => Err(NoMemory),

@@ -7,7 +7,6 @@ mod contract_file;
 mod decide;
 mod design_text;
 mod expression_text;
-mod expressions;
 mod folded;
 mod formula;
 mod module_items;

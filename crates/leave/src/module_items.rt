@@ -1,11 +1,12 @@
 //! Registers and clocked blocks (IEEE 1364-2005, annex A.1.4).
 
-ghost use Rattle.std.specs.Prelude.{◌<◌, length, IfOk};
+ghost use Rattle.std.specs.Prelude.{◌≡◌, ◌<◌, length, IfOk};
 ghost use Rattle.leave.specs.Spelling.{SpellsRegName, SpellsRegNames, SpellsPosedge, SpellsItem, SpellsItems};
+ghost use Rattle.leave.specs.Tails.{IsTail};
 
 use crate::reading::{Unread, ident, mark, place_of, word};
 use crate::statements::statement;
-use lv_ast::{Ident, Item, RegName, Token, Watch};
+use lv_ast::{Ident, Item, RegName, Token, Tokens, Watch};
 use sqlite_items::Items;
 use std::alloc::Global;
 
@@ -69,28 +70,38 @@ fn posedge<'a>(
 fn always<'a>(
     alloc: Global,
     text: &[u8],
+    all: &'a Tokens,
     tokens: &'a [Token],
 ) -> Result<(Item, &'a [Token]), Unread>
+    requires text { all.now.text ≡ text.now }
+    requires tail { IsTail all.now.list tokens.now }
     ensures spelled { IfOk result (λ r. SpellsItem text.now r.0 tokens.now r.1.now) }
     ensures shorter { IfOk result (λ r. length r.1.now < length tokens.now) }
 {
     let event = word(text, tokens, b"always")?;
     let (clock, body) = posedge(alloc, text, event)?;
-    let (x, rest) = statement(alloc, text, body)?;
+    let (x, rest) = statement(alloc, text, all, body)?;
     Ok((
         Item::Always(Watch::Posedge(clock), x, place_of(tokens)),
         rest,
     ))
 }
 
-fn item<'a>(alloc: Global, text: &[u8], tokens: &'a [Token]) -> Result<(Item, &'a [Token]), Unread>
+fn item<'a>(
+    alloc: Global,
+    text: &[u8],
+    all: &'a Tokens,
+    tokens: &'a [Token],
+) -> Result<(Item, &'a [Token]), Unread>
+    requires text { all.now.text ≡ text.now }
+    requires tail { IsTail all.now.list tokens.now }
     ensures spelled { IfOk result (λ r. SpellsItem text.now r.0 tokens.now r.1.now) }
     ensures shorter { IfOk result (λ r. length r.1.now < length tokens.now) }
 {
     if word(text, tokens, b"reg").is_ok() {
         regs(alloc, text, tokens)
     } else {
-        always(alloc, text, tokens)
+        always(alloc, text, all, tokens)
     }
 }
 
@@ -98,14 +109,17 @@ fn item<'a>(alloc: Global, text: &[u8], tokens: &'a [Token]) -> Result<(Item, &'
 pub(crate) fn items<'a>(
     alloc: Global,
     text: &[u8],
+    all: &'a Tokens,
     tokens: &'a [Token],
 ) -> Result<(Items<Item>, &'a [Token]), Unread>
+    requires text { all.now.text ≡ text.now }
+    requires tail { IsTail all.now.list tokens.now }
     ensures { IfOk result (λ r. SpellsItems text.now r.0 tokens.now r.1.now) }
 {
     let mut list = Items::new(alloc);
     let mut rest = tokens;
     'items: while word(text, rest, b"endmodule").is_err() {
-        let (x, end) = item(alloc, text, rest)?;
+        let (x, end) = item(alloc, text, all, rest)?;
         list.push(x)?;
         rest = end;
     }

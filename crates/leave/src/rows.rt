@@ -159,6 +159,66 @@ fn words_are_refused(rt: HostRuntime) -> Result<(), Fail> {
     Ok(())
 }
 
+// The contract file whose `retire` is this expression.
+fn retires_at(alloc: Global, retire: &[u8]) -> Result<Vec<u8>, NoMemory> {
+    let mut contract = Vec::new(alloc);
+    contract.extend_from_slice(
+        b"format = 1\nfiles = [\"t.v\"]\ntop = \"t\"\nclock = \"clk\"\nlookahead = 0\nretire = \"",
+    )?;
+    contract.extend_from_slice(retire)?;
+    contract.extend_from_slice(
+        b"\"\ncontract = [\"q\"]\nattacker = [\"q\"]\n[initial]\nequal = [\"q\"]\n[candidates]\nregisters = true\naligned = true\n",
+    )?;
+    Ok(contract)
+}
+
+// The design whose register's next value is this expression.
+fn assigns(alloc: Global, value: &[u8]) -> Result<Vec<u8>, NoMemory> {
+    let mut design = Vec::new(alloc);
+    design.extend_from_slice(
+        b"module t(input clk, input d, output reg q);\n  always @(posedge clk) q <= ",
+    )?;
+    design.extend_from_slice(value)?;
+    design.extend_from_slice(b";\nendmodule\n")?;
+    Ok(design)
+}
+
+// The same expression in the contract file and in the design.
+fn answers(alloc: Global, expression: &[u8], code: u8, text: &[u8]) -> Result<bool, NoMemory> {
+    let verify = [b"verify".as_slice(), b"a.toml".as_slice()];
+    let contract = retires_at(alloc, expression)?;
+    let design = assigns(alloc, expression)?;
+    let in_contract = gives(alloc, &verify, &contract, Some(DESIGN), code, text)?;
+    let in_design = gives(alloc, &verify, CONTRACT, Some(&design), code, text)?;
+    Ok(in_contract && in_design)
+}
+
+#[test]
+fn rows_of_expressions(rt: HostRuntime) -> Result<(), Fail> {
+    let alloc = rt.alloc();
+    let unbuilt = b"refused unbuilt\n".as_slice();
+    let rows: [(&[u8], u8, &[u8]); 14] = [
+        (b"q", 0, ACCEPTED),
+        (b"~(q | d) & q ^ d", 0, ACCEPTED),
+        (b"((q)) ^ +d", 0, ACCEPTED),
+        (b"q |", 3, unbuilt),
+        (b"q d", 3, unbuilt),
+        (b"clk", 3, unbuilt),
+        (b"e", 3, unbuilt),
+        (b"u.q", 3, unbuilt),
+        (b"q[0]", 3, unbuilt),
+        (b"&q", 3, unbuilt),
+        (b"q ~^ d", 3, unbuilt),
+        (b"q ? d : q", 3, unbuilt),
+        (b"q && d", 3, unbuilt),
+        (b"1'b1", 3, unbuilt),
+    ];
+    for (expression, code, text) in rows {
+        assert!(rt; matches!(answers(alloc, expression, code, text), Ok(true)));
+    }
+    Ok(())
+}
+
 fn second_read_fails(alloc: Global) -> Result<bool, NoMemory> {
     let words = words_of(alloc, &[b"verify", b"a.toml"])?;
     let mut fails = Vec::new(alloc);

@@ -60,7 +60,7 @@ fn reads_designs(rt: HostRuntime) -> Result<(), Fail> {
         b"module top(input clk, output q); endmodule".as_slice(),
         b"module top(input clk, output reg q) endmodule".as_slice(),
         b"module top(input clk); always @(posedge clk) q = clk; endmodule".as_slice(),
-        b"module top(input clk); always @(posedge clk) q <= clk && q; endmodule".as_slice(),
+        b"module top(input clk); always @(posedge clk) q <= clk +; endmodule".as_slice(),
         b"module top(input clk); reg [1:0] a; endmodule".as_slice(),
         b"module top(input clk); endmodule endmodule".as_slice(),
         b"".as_slice(),
@@ -77,7 +77,7 @@ fn is_read(alloc: Global, text: &[u8]) -> bool {
 
 #[test]
 fn reads_expressions(rt: HostRuntime) -> Result<(), Fail> {
-    let rows: [(&[u8], bool); 8] = [
+    let rows: [(&[u8], bool); 12] = [
         (b"a".as_slice(), true),
         (b"~(a | b) & c ^ d".as_slice(), true),
         (b"~~a".as_slice(), true),
@@ -85,7 +85,11 @@ fn reads_expressions(rt: HostRuntime) -> Result<(), Fail> {
         (b"a b".as_slice(), false),
         (b"a |".as_slice(), false),
         (b"(a".as_slice(), false),
-        (b"&a".as_slice(), false),
+        (b"&a".as_slice(), true),
+        (b"u[1].a[0]".as_slice(), true),
+        (b"a ? b : c".as_slice(), true),
+        (b"1'b1".as_slice(), false),
+        (b"2'b1?".as_slice(), false),
     ];
     for (text, read) in rows {
         assert_eq!(rt; is_read(rt.alloc(), text), read);

@@ -1,3 +1,4 @@
+pub mod Spans
 pub mod Placing
 pub mod Pushing
 pub mod Opening

@@ -1,3 +1,4 @@
+pub mod Arena
 pub mod Trail
 pub mod Store
 pub mod Status

@@ -1,6 +1,7 @@
 //! The literals that are true, and what unit steps make of them.
 #![tactic(auto)]
 
+mod arena;
 mod status;
 mod store;
 #[cfg(test)]

@@ -5,6 +5,7 @@ ghost use Rattle.lv_trail.specs.Store.{entries, IsSound, IsFree, IsStep, IsSame,
 ghost use Rattle.lv_trail.specs.Trail.{no_entry, truths, value_in, IsReasonOf, IsLevelOf, IsClosed};
 ghost use Rattle.lv_trail.specs.Status.{IsSeen};
 
+use crate::arena::Arena;
 use crate::status::{Status, status_of};
 use lv_bits::NoMemory;
 use lv_clauses::{Clause, ClauseSet, Lit};
@@ -22,7 +23,7 @@ pub struct Entry {
 #[derive(Drop)]
 pub struct Store {
     pub vars: u64,
-    pub clauses: Vec<Clause>,
+    pub clauses: Arena,
     pub slots: Vec<Entry>,
     pub len: u64,
     pub places: Vec<u64>,
@@ -58,15 +59,13 @@ fn no_entry() -> Entry
 impl Store {
     pub fn new(alloc: Global, set: &ClauseSet) -> Result<Store, NoMemory>
         ensures sound { IfOk result (λ t. IsSound t) }
-        ensures same { IfOk result (λ t. (t.vars ≡ set.now.vars) × (t.clauses.items ≡ set.now.clauses)) }
+        ensures same { IfOk result (λ t. (t.vars ≡ set.now.vars) × (t.clauses ≡ set.now.clauses)) }
         ensures empty { IfOk result (λ t. (t.len ≡ 0) × (t.level ≡ 0)) }
     {
         let vars = set.vars();
-        let mut clauses = Vec::new(alloc);
+        let mut clauses = Arena::new(alloc);
         for id in 0..set.len() {
-            let clause = set.clause(id + 1).copy(alloc)?;
-            clauses.reserve(1)?;
-            clauses.push_reserved(clause);
+            clauses.push(set.clause(id + 1).lits())?;
         }
         let none = no_entry();
         let slots = vec![in alloc; none; vars as usize]?;
@@ -149,15 +148,15 @@ impl Store {
         self.slots[(place - 1) as usize].level
     }
 
-    /// The clause of this number, from 1 on.
-    pub fn clause(&self, id: u64) -> &Clause
+    /// The literals of the clause of this number, from 1.
+    pub fn clause(&self, id: u64) -> &[Lit]
         requires sound { IsSound self.now }
-        requires within { (1 ≤ id) × (id ≤ length self.now.clauses.items) }
-        ensures value { numbered self.now.clauses.items id ≡ Some result.now }
+        requires within { (1 ≤ id) × (id ≤ length self.now.clauses) }
+        ensures value { numbered self.now.clauses id ≡ Some result.now }
         ensures sorted { IsClause result.now }
         ensures within { IsWithin result.now self.now.vars }
     {
-        &self.clauses[(id - 1) as usize]
+        self.clauses.lits(id - 1)
     }
 
     /// Makes one more literal true.
@@ -181,7 +180,7 @@ impl Store {
     pub fn decide(&mut self, lit: Lit)
         requires sound { IsSound self.old }
         requires free { IsFree self.old lit }
-        requires closed { IsClosed self.old.clauses.items (truths (entries self.old)) }
+        requires closed { IsClosed self.old.clauses (truths (entries self.old)) }
         ensures sound { IsSound self.new }
         ensures same { IsSame self.old self.new }
         ensures entries { entries self.new ≡ entries self.old ++ record { lit = lit; level = self.old.level + 1; reason = 0 } ∷ [] }
@@ -195,21 +194,21 @@ impl Store {
         });
     }
 
-    /// Looks at clause k, from 0, and makes its literal true where it is unit.
-    fn look(&mut self, k: usize) -> Seen
+    /// Looks at the clause of this number, from 1, and makes its literal true where it is unit.
+    fn look(&mut self, id: u64) -> Seen
         requires sound { IsSound self.old }
-        requires below { k < length self.old.clauses.items }
+        requires within { (1 ≤ id) × (id ≤ length self.old.clauses) }
         ensures grown { IsGrown self.old self.new }
-        ensures seen { (c : List Literal) → slice_get self.old.clauses.items k ≡ Some c → IsSeen self.old self.new c result }
+        ensures seen { (c : List Literal) → numbered self.old.clauses id ≡ Some c → IsSeen self.old self.new c result }
     {
-        match status_of(self, self.clauses[k].lits()) {
+        match status_of(self, self.clause(id)) {
             Status::False => Seen::Falsified,
             Status::Unit(lit) => {
                 let level = self.level;
                 self.push(Entry {
                     lit,
                     level,
-                    reason: k as u64 + 1,
+                    reason: id,
                 });
                 Seen::Pushed
             }
@@ -226,9 +225,9 @@ impl Store {
         loop {
             let mut changed = false;
             for k in 0..self.clauses.len() {
-                match self.look(k) {
+                match self.look(k + 1) {
                     Seen::Falsified => {
-                        return Reached::Conflict(k as u64 + 1);
+                        return Reached::Conflict(k + 1);
                     }
                     Seen::Pushed => {
                         changed = true;
@@ -275,14 +274,11 @@ impl Store {
         requires sound { IsSound self.old }
         requires within { IsWithin clause self.old.vars }
         ensures sound { IsSound self.new }
-        ensures ok { OnOk result ((self.new.clauses.items ≡ self.old.clauses.items ++ clause ∷ []) × (entries self.new ≡ entries self.old) × (self.new.level ≡ self.old.level) × (self.new.vars ≡ self.old.vars)) }
-        ensures number { IfOk result (λ n. n ≡ length self.old.clauses.items + 1) }
+        ensures ok { OnOk result ((self.new.clauses ≡ self.old.clauses ++ clause ∷ []) × (entries self.new ≡ entries self.old) × (self.new.level ≡ self.old.level) × (self.new.vars ≡ self.old.vars)) }
+        ensures number { IfOk result (λ n. n ≡ length self.old.clauses + 1) }
         ensures err { OnErr result (IsSame self.old self.new × (entries self.new ≡ entries self.old) × (self.new.level ≡ self.old.level)) }
     {
-        // Tells that the literals are sorted.
-        let _ = clause.lits();
-        self.clauses.reserve(1)?;
-        self.clauses.push_reserved(clause);
-        Ok(self.clauses.len() as u64)
+        self.clauses.push(clause.lits())?;
+        Ok(self.clauses.len())
     }
 }

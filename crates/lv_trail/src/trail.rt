@@ -22,7 +22,7 @@ impl Model for Trail {
 
     ghost Value = { TrailValue };
 
-    ghost view = { λ t. record { vars = t.store.vars; clauses = t.store.clauses.items; entries = entries t.store; level = t.store.level } };
+    ghost view = { λ t. record { vars = t.store.vars; clauses = t.store.clauses; entries = entries t.store; level = t.store.level } };
 
     ghost invariant = { λ t. IsSound t.store };
 }
@@ -83,7 +83,7 @@ impl Trail {
         requires { (1 ≤ id) × (id ≤ length self.now.clauses) }
         ensures { numbered self.now.clauses id ≡ Some result.now }
     {
-        self.store.clause(id).lits()
+        self.store.clause(id)
     }
 
     /// Makes a literal true at a new level.

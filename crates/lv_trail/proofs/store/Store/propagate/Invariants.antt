@@ -11,8 +11,8 @@ invariant-loop-k-2 l = record {
   grown : IsGrown l.fn.self l.self;
   from : l.initial.self.len ≤ l.self.len;
   changed : l.changed ≡ true → l.initial.self.len < l.self.len;
-  open_so_far : l.changed ≡ false → (j : ℕ) (c : List Lit) → j < l.k → slice_get l.self.clauses.items j ≡ Some c → IsOpen (truths (entries l.self)) c;
-  count : l.k-end ≡ length l.self.clauses.items;
+  open_so_far : l.changed ≡ false → (j : ℕ) (c : List Lit) → j < l.k → slice_get l.self.clauses j ≡ Some c → IsOpen (truths (entries l.self)) c;
+  count : l.k-end ≡ length l.self.clauses;
 }
 
 abbrev pub invariant-loop-k : goal.invariant-loop-k

@@ -33,6 +33,14 @@ step-reason-by : (t : Store) (e : Entry) (r : ℕ) → step_by t e r → 1 ≤ r
 step-reason-by t e zero h z = absurd (omega arith)
 step-reason-by t e (suc r) h z = h.1
 
+-- the literal of a unit clause has no value
+pub free-unit : (t : Store) → IsSound t → (l : Lit) (r : ℕ) → IsReason t.clauses (truths (entries t)) l r → IsFree t l
+free-unit t s l zero h = let (c, e, u) = h in absurd cc
+free-unit t s l (suc k) h =
+    let (c, e, u) = h in
+    let w = (s.clauses k c e).1 l u.inside in
+    record { low = w.0; high = w.1; unset = u.unset; unset_negated = u.free }
+
 free-suc : (n : ℕ) → free_of (n + 1) ≡ 0
 free-suc n = rw (ne_eqb (n + 1) 0 (λ e. omega arith)) refl
 

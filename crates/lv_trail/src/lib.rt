@@ -2,11 +2,13 @@
 #![tactic(auto)]
 
 mod arena;
-mod status;
+mod lists;
+mod search;
 mod store;
 #[cfg(test)]
 mod tests;
 mod trail;
+mod watched;
 
 pub use store::Reached;
 pub use trail::Trail;

@@ -2,11 +2,9 @@ ghost use Rattle.std.specs.Prelude.{◌≡◌, ℕ, ◌+◌, ◌-◌, ◌<◌, �
 ghost use Rattle.lv_clauses.specs.Literals.{Lit as Literal, has, negated, IsClause, IsWithin};
 ghost use Rattle.lv_clauses.specs.Sets.{numbered};
 ghost use Rattle.lv_trail.specs.Store.{entries, IsSound, IsFree, IsStep, IsSame, IsReached, IsCut, IsGrown, IsPopped};
-ghost use Rattle.lv_trail.specs.Trail.{no_entry, truths, value_in, IsReasonOf, IsLevelOf, IsClosed};
-ghost use Rattle.lv_trail.specs.Status.{IsSeen};
+ghost use Rattle.lv_trail.specs.Trail.{no_entry, truths, value_in, IsReason, IsReasonOf, IsLevelOf, IsClosed};
 
 use crate::arena::Arena;
-use crate::status::{Status, status_of};
 use lv_bits::NoMemory;
 use lv_clauses::{Clause, ClauseSet, Lit};
 use std::alloc::Global;
@@ -35,14 +33,6 @@ pub struct Store {
 pub enum Reached {
     Closed,
     Conflict(u64),
-}
-
-/// What a look at one clause showed.
-#[derive(Clone, Copy)]
-pub enum Seen {
-    Falsified,
-    Pushed,
-    Kept,
 }
 
 /// What stands in slots that are past the end.
@@ -160,7 +150,7 @@ impl Store {
     }
 
     /// Makes one more literal true.
-    fn push(&mut self, entry: Entry)
+    pub fn push(&mut self, entry: Entry)
         requires sound { IsSound self.old }
         requires free { IsFree self.old entry.lit }
         requires step { IsStep self.old entry }
@@ -194,51 +184,23 @@ impl Store {
         });
     }
 
-    /// Looks at the clause of this number, from 1, and makes its literal true where it is unit.
-    fn look(&mut self, id: u64) -> Seen
+    /// Makes the literal of a unit clause true, unless it is so already.
+    pub fn force(&mut self, lit: Lit, id: u64)
         requires sound { IsSound self.old }
-        requires within { (1 ≤ id) × (id ≤ length self.old.clauses) }
+        requires within { (1 ≤ lit.var) × (lit.var ≤ self.old.vars) }
+        requires reason { has (truths (entries self.old)) lit ≡ false → IsReason self.old.clauses (truths (entries self.old)) lit id }
         ensures grown { IsGrown self.old self.new }
-        ensures seen { (c : List Literal) → numbered self.old.clauses id ≡ Some c → IsSeen self.old self.new c result }
+        ensures is { has (truths (entries self.new)) lit ≡ true }
     {
-        match status_of(self, self.clause(id)) {
-            Status::False => Seen::Falsified,
-            Status::Unit(lit) => {
-                let level = self.level;
-                self.push(Entry {
-                    lit,
-                    level,
-                    reason: id,
-                });
-                Seen::Pushed
-            }
-            Status::Open => Seen::Kept,
+        if self.is_true(lit) {
+            return;
         }
-    }
-
-    /// Makes unit steps until no clause is unit or some clause is false.
-    pub fn propagate(&mut self) -> Reached
-        requires sound { IsSound self.old }
-        ensures grown { IsGrown self.old self.new }
-        ensures reached { IsReached self.new result }
-    {
-        loop {
-            let mut changed = false;
-            for k in 0..self.clauses.len() {
-                match self.look(k + 1) {
-                    Seen::Falsified => {
-                        return Reached::Conflict(k + 1);
-                    }
-                    Seen::Pushed => {
-                        changed = true;
-                    }
-                    Seen::Kept => {}
-                }
-            }
-            if !changed {
-                return Reached::Closed;
-            }
-        }
+        let level = self.level;
+        self.push(Entry {
+            lit,
+            level,
+            reason: id,
+        });
     }
 
     /// Takes the last literal away.

@@ -73,7 +73,7 @@ fn is_asserting(trail: &Trail, top: u64, lits: &[Lit]) -> bool
 }
 
 /// The greatest level below the last one at which one of these became false.
-pub fn jump_level(trail: &Trail, top: u64, lits: &[Lit]) -> u64
+fn jump_level(trail: &Trail, top: u64, lits: &[Lit]) -> u64
     requires sound { IsTrail trail.now }
     requires top { top ≡ trail.now.level }
     requires some { 1 ≤ top }
@@ -88,6 +88,20 @@ pub fn jump_level(trail: &Trail, top: u64, lits: &[Lit]) -> u64
         }
     }
     found
+}
+
+/// The level to go back to: 0 where the search is to begin anew.
+pub fn back_level(trail: &Trail, top: u64, lits: &[Lit], anew: bool) -> u64
+    requires sound { IsTrail trail.now }
+    requires top { top ≡ trail.now.level }
+    requires some { 1 ≤ top }
+    requires false_all { AreFalse trail.now lits.now }
+    ensures { IsJump trail.now lits.now result }
+{
+    if anew {
+        return 0;
+    }
+    jump_level(trail, top, lits)
 }
 
 /// Resolves a false clause with reasons, until one literal of the last level is left, or until all are negations of decisions.

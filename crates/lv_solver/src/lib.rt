@@ -2,6 +2,7 @@
 #![tactic(auto)]
 
 mod analyze;
+mod heap;
 mod order;
 mod resolve;
 mod solve_set;

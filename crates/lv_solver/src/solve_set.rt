@@ -5,7 +5,7 @@ ghost use Rattle.lv_trail.specs.declared.store.Reached.TheVariants.{Conflict};
 ghost use Rattle.lv_solver.specs.Learning.{AreFalse, IsSteady};
 ghost use Rattle.lv_solver.specs.Solving.{IsPick, IsChoice, IsAnswer, Values, HasLearnt};
 
-use crate::analyze::{analyze, jump_level, top_level};
+use crate::analyze::{analyze, back_level, top_level};
 use crate::order::Order;
 use lv_bits::NoMemory;
 use lv_clauses::{Assignment, Clause, ClauseSet, Derivation, Line, Lit};
@@ -34,18 +34,18 @@ fn pick(trail: &Trail, vars: u64) -> Option<u64>
 }
 
 /// A literal to decide: of the first variable without a value, or as the order suggests.
-fn choose(trail: &Trail, vars: u64, order: &Order, rising: bool) -> Option<Lit>
+fn choose(trail: &Trail, vars: u64, order: &mut Order, rising: bool) -> Option<Lit>
     requires { vars ≡ trail.now.vars }
     ensures { IsChoice trail.now rising result }
 {
-    let Some(var) = pick(trail, vars) else {
-        return None;
-    };
     if !rising {
         if let Some(lit) = order.suggest(trail, vars) {
             return Some(lit);
         }
     }
+    let Some(var) = pick(trail, vars) else {
+        return None;
+    };
     let lit = Lit::new(var, true);
     Some(lit)
 }
@@ -121,7 +121,7 @@ pub fn solve(alloc: Global, set: &ClauseSet, budget: u64) -> Result<Answer, NoMe
     let mut order = Order::new(alloc, vars)?;
     loop {
         match trail.propagate() {
-            Reached::Closed => match choose(&trail, vars, &order, log.len() >= half) {
+            Reached::Closed => match choose(&trail, vars, &mut order, log.len() >= half) {
                 None => {
                     return Ok(Answer::Model(values(alloc, &trail, vars)?));
                 }
@@ -141,12 +141,13 @@ pub fn solve(alloc: Global, set: &ClauseSet, budget: u64) -> Result<Answer, NoMe
                     return Ok(Answer::Refuted(log));
                 }
                 order.reward(clause.lits());
-                order.save(&trail);
+                let due = order.is_due();
                 let level = if log.len() == half {
                     0
                 } else {
-                    jump_level(&trail, top, clause.lits())
+                    back_level(&trail, top, clause.lits(), due)
                 };
+                order.save(&trail, level);
                 trail.back(level);
                 trail.add(clause)?;
             }

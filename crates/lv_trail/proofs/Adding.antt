@@ -23,13 +23,13 @@ are-clauses-push vars cs d are cl within = λ k c e.
       | inr b ↦ subst (λ z. IsClause z × IsWithin z vars) b.0 (cl, within)
     ]
 
-changed : (t : Store) → IsSound t → (u : Store) → AreClauses t.vars u.clauses.items → ((c : List Lit) (r : ℕ) → numbered t.clauses.items r ≡ Some c → numbered u.clauses.items r ≡ Some c) → u.vars ≡ t.vars → u.slots.items ≡ t.slots.items → u.len ≡ t.len → u.places.items ≡ t.places.items → u.level ≡ t.level → IsSound u
+changed : (t : Store) → IsSound t → (u : Store) → AreClauses t.vars u.clauses → ((c : List Lit) (r : ℕ) → numbered t.clauses r ≡ Some c → numbered u.clauses r ≡ Some c) → u.vars ≡ t.vars → u.slots.items ≡ t.slots.items → u.len ≡ t.len → u.places.items ≡ t.places.items → u.level ≡ t.level → IsSound u
 changed t s u are older ev es el ep eL =
     record {
       slots = ap length es ∙ (s.slots ∙ sym ev);
       places = ap length ep ∙ (s.places ∙ sym ev);
       free = omega (arith, ap (sum_by free_of) ep, el, ev, s.free);
-      clauses = subst (λ z. AreClauses z u.clauses.items) (sym ev) are;
+      clauses = subst (λ z. AreClauses z u.clauses) (sym ev) are;
       placed = λ k h. let p = s.placed k (omega (arith, el)) in
           let at = ap (λ z. (get_or z k no_entry).lit.var) es in
           record {
@@ -42,7 +42,7 @@ changed t s u are older ev es el ep eL =
           let w = s.found v (omega (arith, ev)) (omega (arith, at)) in
           (omega (arith, at, w.0, el), ap (λ z. (get_or z (get_or u.places.items v 0 - 1) no_entry).lit.var) es ∙ (ap (λ z. (get_or t.slots.items (z - 1) no_entry).lit.var) at ∙ w.1));
       reasons = λ k h one.
-          let P : List Entry → Type 0 = λ z. 1 ≤ (get_or z k no_entry).reason → IsReason u.clauses.items (truths (take k z)) (get_or z k no_entry).lit (get_or z k no_entry).reason in
+          let P : List Entry → Type 0 = λ z. 1 ≤ (get_or z k no_entry).reason → IsReason u.clauses (truths (take k z)) (get_or z k no_entry).lit (get_or z k no_entry).reason in
           let q : P t.slots.items = λ one'.
           let (c, e, un) = s.reasons k (omega (arith, el)) one' in
           (c, older c (get_or t.slots.items k no_entry).reason e, un) in
@@ -60,19 +60,19 @@ changed t s u are older ev es el ep eL =
       top = λ k h. omega (arith, ap (λ z. (get_or z k no_entry).level) es, s.top k (omega (arith, el)), eL);
     }
 
-pub added : (t : Store) (d : List Lit) → IsSound t → IsClause d → IsWithin d t.vars → (u : Store) → u.vars ≡ t.vars → u.slots.items ≡ t.slots.items → u.len ≡ t.len → u.places.items ≡ t.places.items → u.level ≡ t.level → u.clauses.items ≡ t.clauses.items ++ d ∷ [] → IsSound u
+pub added : (t : Store) (d : List Lit) → IsSound t → IsClause d → IsWithin d t.vars → (u : Store) → u.vars ≡ t.vars → u.slots.items ≡ t.slots.items → u.len ≡ t.len → u.places.items ≡ t.places.items → u.level ≡ t.level → u.clauses ≡ t.clauses ++ d ∷ [] → IsSound u
 added t d s cl within u ev es el ep eL ec =
-    changed t s u (subst (λ z. AreClauses t.vars z) (sym ec) (are-clauses-push t.vars t.clauses.items d s.clauses cl within))
-    (λ c r e. ap (λ z. numbered z r) ec ∙ numbered-older t.clauses.items (d ∷ []) c r e) ev es el ep eL
+    changed t s u (subst (λ z. AreClauses t.vars z) (sym ec) (are-clauses-push t.vars t.clauses d s.clauses cl within))
+    (λ c r e. ap (λ z. numbered z r) ec ∙ numbered-older t.clauses (d ∷ []) c r e) ev es el ep eL
 
-pub kept : (t : Store) → IsSound t → (u : Store) → u.vars ≡ t.vars → u.slots.items ≡ t.slots.items → u.len ≡ t.len → u.places.items ≡ t.places.items → u.level ≡ t.level → u.clauses.items ≡ t.clauses.items → IsSound u
+pub kept : (t : Store) → IsSound t → (u : Store) → u.vars ≡ t.vars → u.slots.items ≡ t.slots.items → u.len ≡ t.len → u.places.items ≡ t.places.items → u.level ≡ t.level → u.clauses ≡ t.clauses → IsSound u
 kept t s u ev es el ep eL ec =
     changed t s u (subst (λ z. AreClauses t.vars z) (sym ec) s.clauses) (λ c r e. ap (λ z. numbered z r) ec ∙ e) ev es el ep eL
 
 one : (n : ℕ) → n * free_of 0 ≡ n
 one n = omega arith
 
-pub fresh : (u : Store) → u.len ≡ 0 → u.level ≡ 0 → u.slots.items ≡ replicate u.vars no_entry → u.places.items ≡ replicate u.vars 0 → AreClauses u.vars u.clauses.items → IsSound u
+pub fresh : (u : Store) → u.len ≡ 0 → u.level ≡ 0 → u.slots.items ≡ replicate u.vars no_entry → u.places.items ≡ replicate u.vars 0 → AreClauses u.vars u.clauses → IsSound u
 fresh u l L es ep are = record {
   slots = ap length es ∙ length-replicate u.vars no_entry;
   places = ap length ep ∙ length-replicate u.vars 0;

@@ -1,3 +1,10 @@
+pub mod Threads
+pub mod Watching
+pub mod Nexting
+pub mod Lasting
+pub mod Visiting
+pub mod Turning
+pub mod Spans
 pub mod Placing
 pub mod Pushing
 pub mod Opening

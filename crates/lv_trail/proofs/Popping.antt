@@ -9,7 +9,7 @@ use Rattle.lv_trail.specs.declared.store.Store.{Store}
 use Rattle.lv_trail.specs.Store.{free_of, IsSound, IsPlaced, IsPopped}
 use Rattle.lv_trail.specs.Trail.{no_entry, truths, IsReason}
 
-module _ (t u : Store) (s : IsSound t) (last : ℕ) (el : last + 1 ≡ t.len) (ev : u.vars ≡ t.vars) (ec : u.clauses.items ≡ t.clauses.items) (es : u.slots.items ≡ t.slots.items) (eu : u.len ≡ last) (ep : u.places.items ≡ set t.places.items ((get_or t.slots.items last no_entry).lit.var - 1) 0) (eL : (last ≡ 0 → u.level ≡ 0) × (1 ≤ last → u.level ≡ (get_or t.slots.items (last - 1) no_entry).level)) where
+module _ (t u : Store) (s : IsSound t) (last : ℕ) (el : last + 1 ≡ t.len) (ev : u.vars ≡ t.vars) (ec : u.clauses ≡ t.clauses) (es : u.slots.items ≡ t.slots.items) (eu : u.len ≡ last) (ep : u.places.items ≡ set t.places.items ((get_or t.slots.items last no_entry).lit.var - 1) 0) (eL : (last ≡ 0 → u.level ≡ 0) × (1 ≤ last → u.level ≡ (get_or t.slots.items (last - 1) no_entry).level)) where
   here : IsPlaced t last
   here = s.placed last (omega arith)
 
@@ -84,11 +84,11 @@ module _ (t u : Store) (s : IsSound t) (last : ℕ) (el : last + 1 ≡ t.len) (e
       slots = omega (arith, ap length es, s.slots, ev);
       places = omega (arith, ap length ep, length-set t.places.items ((get_or t.slots.items last no_entry).lit.var - 1) 0, s.places, ev);
       free = sum;
-      clauses = subst (λ z. AreClauses z u.clauses.items) (sym ev) (subst (λ z. AreClauses t.vars z) (sym ec) s.clauses);
+      clauses = subst (λ z. AreClauses z u.clauses) (sym ev) (subst (λ z. AreClauses t.vars z) (sym ec) s.clauses);
       placed = placed;
       found = found;
       reasons = λ k h.
-          let P : List Entry → Type 0 = λ z. 1 ≤ (get_or z k no_entry).reason → IsReason u.clauses.items (truths (take k z)) (get_or z k no_entry).lit (get_or z k no_entry).reason in
+          let P : List Entry → Type 0 = λ z. 1 ≤ (get_or z k no_entry).reason → IsReason u.clauses (truths (take k z)) (get_or z k no_entry).lit (get_or z k no_entry).reason in
           let q : P t.slots.items = λ one. subst (λ z. IsReason z (truths (take k t.slots.items)) (get_or t.slots.items k no_entry).lit (get_or t.slots.items k no_entry).reason) (sym ec) (s.reasons k (omega (arith, eu)) one) in
           subst P (sym es) q;
       decided = λ k h.

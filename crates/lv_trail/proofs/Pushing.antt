@@ -29,9 +29,17 @@ step-decided-by : (t : Store) (e : Entry) (r : ℕ) → step_by t e r → r ≡ 
 step-decided-by t e zero h z = omega arith
 step-decided-by t e (suc r) h z = absurd (omega arith)
 
-step-reason-by : (t : Store) (e : Entry) (r : ℕ) → step_by t e r → 1 ≤ r → IsReason t.clauses.items (truths (entries t)) e.lit r
+step-reason-by : (t : Store) (e : Entry) (r : ℕ) → step_by t e r → 1 ≤ r → IsReason t.clauses (truths (entries t)) e.lit r
 step-reason-by t e zero h z = absurd (omega arith)
 step-reason-by t e (suc r) h z = h.1
+
+-- the literal of a unit clause has no value
+pub free-unit : (t : Store) → IsSound t → (l : Lit) (r : ℕ) → IsReason t.clauses (truths (entries t)) l r → IsFree t l
+free-unit t s l zero h = let (c, e, u) = h in absurd cc
+free-unit t s l (suc k) h =
+    let (c, e, u) = h in
+    let w = (s.clauses k c e).1 l u.inside in
+    record { low = w.0; high = w.1; unset = u.unset; unset_negated = u.free }
 
 free-suc : (n : ℕ) → free_of (n + 1) ≡ 0
 free-suc n = rw (ne_eqb (n + 1) 0 (λ e. omega arith)) refl
@@ -39,7 +47,7 @@ free-suc n = rw (ne_eqb (n + 1) 0 (λ e. omega arith)) refl
 -- the trail u is t with one more entry
 pub record IsPushed (t u : Store) (e : Entry) : Type 0 where
   pub vars : u.vars ≡ t.vars
-  pub clauses : u.clauses.items ≡ t.clauses.items
+  pub clauses : u.clauses ≡ t.clauses
   pub slots : u.slots.items ≡ set t.slots.items t.len e
   pub len : u.len ≡ t.len + 1
   pub places : u.places.items ≡ set t.places.items (e.lit.var - 1) (t.len + 1)
@@ -108,15 +116,15 @@ module _ (t u : Store) (e : Entry) (s : IsSound t) (f : IsFree t e.lit) (st : Is
             (omega (arith, same, w.0, p.len), ap (λ z. (get_or u.slots.items z no_entry).lit.var) at ∙ (ap (λ z. z.lit.var) (old _ below) ∙ w.1))
       ]
 
-  reason_at : (k : ℕ) → k < t.len → 1 ≤ (get_or t.slots.items k no_entry).reason → IsReason u.clauses.items (truths (take k u.slots.items)) (get_or t.slots.items k no_entry).lit (get_or t.slots.items k no_entry).reason
+  reason_at : (k : ℕ) → k < t.len → 1 ≤ (get_or t.slots.items k no_entry).reason → IsReason u.clauses (truths (take k u.slots.items)) (get_or t.slots.items k no_entry).lit (get_or t.slots.items k no_entry).reason
   reason_at k h one =
       subst (λ z. IsReason z (truths (take k u.slots.items)) (get_or t.slots.items k no_entry).lit (get_or t.slots.items k no_entry).reason) (sym p.clauses)
-      (subst (λ z. IsReason t.clauses.items (truths z) (get_or t.slots.items k no_entry).lit (get_or t.slots.items k no_entry).reason) (sym (take_old k (omega arith))) (s.reasons k h one))
+      (subst (λ z. IsReason t.clauses (truths z) (get_or t.slots.items k no_entry).lit (get_or t.slots.items k no_entry).reason) (sym (take_old k (omega arith))) (s.reasons k h one))
 
-  reason_new : 1 ≤ e.reason → IsReason u.clauses.items (truths (take t.len u.slots.items)) e.lit e.reason
+  reason_new : 1 ≤ e.reason → IsReason u.clauses (truths (take t.len u.slots.items)) e.lit e.reason
   reason_new one =
       subst (λ z. IsReason z (truths (take t.len u.slots.items)) e.lit e.reason) (sym p.clauses)
-      (subst (λ z. IsReason t.clauses.items (truths z) e.lit e.reason) (sym (take_old t.len (omega arith))) (step-reason-by t e e.reason st one))
+      (subst (λ z. IsReason t.clauses (truths z) e.lit e.reason) (sym (take_old t.len (omega arith))) (step-reason-by t e e.reason st one))
 
   levels : (t.level ≤ e.level) × (e.level ≤ t.level + 1)
   levels = step-level-by t e e.reason st
@@ -150,10 +158,10 @@ module _ (t u : Store) (e : Entry) (s : IsSound t) (f : IsFree t e.lit) (st : Is
     slots = omega (arith, ap length p.slots, length-set t.slots.items t.len e, s.slots, p.vars);
     places = omega (arith, ap length p.places, length-set t.places.items (e.lit.var - 1) (t.len + 1), s.places, p.vars);
     free = sum;
-    clauses = subst (λ z. AreClauses z u.clauses.items) (sym p.vars) (subst (λ z. AreClauses t.vars z) (sym p.clauses) s.clauses);
+    clauses = subst (λ z. AreClauses z u.clauses) (sym p.vars) (subst (λ z. AreClauses t.vars z) (sym p.clauses) s.clauses);
     placed = placed;
     found = found;
-    reasons = each (λ k x. 1 ≤ x.reason → IsReason u.clauses.items (truths (take k u.slots.items)) x.lit x.reason) reason_at reason_new;
+    reasons = each (λ k x. 1 ≤ x.reason → IsReason u.clauses (truths (take k u.slots.items)) x.lit x.reason) reason_at reason_new;
     decided = each (λ k x. x.reason ≡ 0 → 1 ≤ x.level) s.decided (step-decided-by t e e.reason st);
     rising = rising;
     below = λ k b. omega (arith, each (λ k x. x.level ≤ e.level) (λ k b. omega (arith, s.below k b, levels)) (omega arith) k b, p.level);

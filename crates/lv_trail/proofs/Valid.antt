@@ -9,7 +9,7 @@ use Rattle.lv_trail.proofs.Placing.{get-take, entries-length}
 use Rattle.lv_clauses.specs.Literals.{Lit}
 
 abbrev pub view_of : Store → TrailValue
-view_of t = record { vars = t.vars; clauses = t.clauses.items; entries = entries t; level = t.level }
+view_of t = record { vars = t.vars; clauses = t.clauses; entries = entries t; level = t.level }
 
 pub same_value : (a b : TrailValue) → a.vars ≡ b.vars → a.clauses ≡ b.clauses → a.entries ≡ b.entries → a.level ≡ b.level → a ≡ b
 same_value a b v c e l =
@@ -25,12 +25,12 @@ module _ (t : Store) (s : IsSound t) where
   at : (k : ℕ) → k < length (entries t) → entry (view_of t) k ≡ get_or t.slots.items k no_entry
   at k h = get-take t.len t.slots.items k (below k h)
 
-  reason_at : (k : ℕ) → k < length (entries t) → 1 ≤ (entry (view_of t) k).reason → IsReason t.clauses.items (truths (take k (entries t))) (entry (view_of t) k).lit (entry (view_of t) k).reason
+  reason_at : (k : ℕ) → k < length (entries t) → 1 ≤ (entry (view_of t) k).reason → IsReason t.clauses (truths (take k (entries t))) (entry (view_of t) k).lit (entry (view_of t) k).reason
   reason_at k h one =
       let e = at k h in
       let shorter : take k (entries t) ≡ take k t.slots.items = take-take k t.len t.slots.items (omega (arith, below k h)) in
-      subst (λ z. IsReason t.clauses.items (truths z) (entry (view_of t) k).lit (entry (view_of t) k).reason) (sym shorter)
-      (subst (λ z. IsReason t.clauses.items (truths (take k t.slots.items)) z.lit z.reason) (sym e) (s.reasons k (below k h) (omega (arith, one, ap (λ z. z.reason) e))))
+      subst (λ z. IsReason t.clauses (truths z) (entry (view_of t) k).lit (entry (view_of t) k).reason) (sym shorter)
+      (subst (λ z. IsReason t.clauses (truths (take k t.slots.items)) z.lit z.reason) (sym e) (s.reasons k (below k h) (omega (arith, one, ap (λ z. z.reason) e))))
 
   pub valid : IsTrail (view_of t)
   valid = record {

@@ -1,3 +1,7 @@
+pub mod Arena
+pub mod Chains
 pub mod Trail
 pub mod Store
-pub mod Status
+pub mod Search
+pub mod Watches
+pub mod Looks

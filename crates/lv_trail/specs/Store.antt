@@ -25,12 +25,12 @@ pub record IsSound (t : Store) : Type 0 where
   pub slots : length t.slots.items ≡ t.vars
   pub places : length t.places.items ≡ t.vars
   pub free : sum_by free_of t.places.items + t.len ≡ t.vars
-  pub clauses : AreClauses t.vars t.clauses.items
+  pub clauses : AreClauses t.vars t.clauses
   pub placed : (k : ℕ) → k < t.len → IsPlaced t k
   pub found : (v : ℕ) → v < t.vars → 1 ≤ get_or t.places.items v 0 →
       (get_or t.places.items v 0 ≤ t.len) × ((get_or t.slots.items (get_or t.places.items v 0 - 1) no_entry).lit.var ≡ v + 1)
   pub reasons : (k : ℕ) → k < t.len → 1 ≤ (get_or t.slots.items k no_entry).reason →
-      IsReason t.clauses.items (truths (take k t.slots.items)) (get_or t.slots.items k no_entry).lit (get_or t.slots.items k no_entry).reason
+      IsReason t.clauses (truths (take k t.slots.items)) (get_or t.slots.items k no_entry).lit (get_or t.slots.items k no_entry).reason
   pub decided : (k : ℕ) → k < t.len → (get_or t.slots.items k no_entry).reason ≡ 0 → 1 ≤ (get_or t.slots.items k no_entry).level
   pub rising : (j k : ℕ) → j ≤ k → k < t.len → (get_or t.slots.items j no_entry).level ≤ (get_or t.slots.items k no_entry).level
   pub below : (k : ℕ) → k < t.len → (get_or t.slots.items k no_entry).level ≤ t.level
@@ -49,22 +49,22 @@ pub record IsFree (t : Store) (l : Lit) : Type 0 where
 -- a decision begins a level, and another literal has a reason
 abbrev pub step_by : Store → Entry → ℕ → Type 0
 step_by t e zero = e.level ≡ t.level + 1
-step_by t e (suc r) = (e.level ≡ t.level) × IsReason t.clauses.items (truths (entries t)) e.lit (suc r)
+step_by t e (suc r) = (e.level ≡ t.level) × IsReason t.clauses (truths (entries t)) e.lit (suc r)
 
 abbrev pub IsStep : Store → Entry → Type 0
 IsStep t e = step_by t e e.reason
 
 -- the clauses stay
 abbrev pub IsSame : Store → Store → Type 0
-IsSame old new = (new.vars ≡ old.vars) × (new.clauses.items ≡ old.clauses.items)
+IsSame old new = (new.vars ≡ old.vars) × (new.clauses ≡ old.clauses)
 
 -- what was added was forced, at the level that was
 abbrev pub AreForced : Store → Store → Type 0
 AreForced old new = (es : List Entry) × (entries new ≡ entries old ++ es) × (new.level ≡ old.level) × AllForced old.level es
 
 abbrev pub IsReached : Store → Reached → Type 0
-IsReached t Closed = IsClosed t.clauses.items (truths (entries t))
-IsReached t (Conflict r) = (c : List Lit) × (numbered t.clauses.items r ≡ Some c) × IsFalsified (truths (entries t)) c
+IsReached t Closed = IsClosed t.clauses (truths (entries t))
+IsReached t (Conflict r) = (c : List Lit) × (numbered t.clauses r ≡ Some c) × IsFalsified (truths (entries t)) c
 
 -- the levels up to this one are kept
 pub record IsCut (old new : Store) (most : ℕ) : Type 0 where
@@ -86,7 +86,7 @@ pub record IsGrown (old new : Store) : Type 0 where
 -- one trail after its last literal is gone
 pub record IsPopped (t u : Store) : Type 0 where
   pub vars : u.vars ≡ t.vars
-  pub clauses : u.clauses.items ≡ t.clauses.items
+  pub clauses : u.clauses ≡ t.clauses
   pub slots : u.slots.items ≡ t.slots.items
   pub len : u.len + 1 ≡ t.len
   pub fall : t.level ≤ u.level + 1

@@ -1,11 +1,14 @@
 //! The literals that are true, and what unit steps make of them.
 #![tactic(auto)]
 
-mod status;
+mod arena;
+mod lists;
+mod search;
 mod store;
 #[cfg(test)]
 mod tests;
 mod trail;
+mod watched;
 
 pub use store::Reached;
 pub use trail::Trail;

@@ -2,10 +2,9 @@ ghost use Rattle.std.specs.Prelude.{◌≡◌, ℕ, ◌+◌, ◌-◌, ◌<◌, �
 ghost use Rattle.lv_clauses.specs.Literals.{Lit as Literal, has, negated, IsClause, IsWithin};
 ghost use Rattle.lv_clauses.specs.Sets.{numbered};
 ghost use Rattle.lv_trail.specs.Store.{entries, IsSound, IsFree, IsStep, IsSame, IsReached, IsCut, IsGrown, IsPopped};
-ghost use Rattle.lv_trail.specs.Trail.{no_entry, truths, value_in, IsReasonOf, IsLevelOf, IsClosed};
-ghost use Rattle.lv_trail.specs.Status.{IsSeen};
+ghost use Rattle.lv_trail.specs.Trail.{no_entry, truths, value_in, IsReason, IsReasonOf, IsLevelOf, IsClosed};
 
-use crate::status::{Status, status_of};
+use crate::arena::Arena;
 use lv_bits::NoMemory;
 use lv_clauses::{Clause, ClauseSet, Lit};
 use std::alloc::Global;
@@ -22,7 +21,7 @@ pub struct Entry {
 #[derive(Drop)]
 pub struct Store {
     pub vars: u64,
-    pub clauses: Vec<Clause>,
+    pub clauses: Arena,
     pub slots: Vec<Entry>,
     pub len: u64,
     pub places: Vec<u64>,
@@ -34,14 +33,6 @@ pub struct Store {
 pub enum Reached {
     Closed,
     Conflict(u64),
-}
-
-/// What a look at one clause showed.
-#[derive(Clone, Copy)]
-pub enum Seen {
-    Falsified,
-    Pushed,
-    Kept,
 }
 
 /// What stands in slots that are past the end.
@@ -58,15 +49,13 @@ fn no_entry() -> Entry
 impl Store {
     pub fn new(alloc: Global, set: &ClauseSet) -> Result<Store, NoMemory>
         ensures sound { IfOk result (λ t. IsSound t) }
-        ensures same { IfOk result (λ t. (t.vars ≡ set.now.vars) × (t.clauses.items ≡ set.now.clauses)) }
+        ensures same { IfOk result (λ t. (t.vars ≡ set.now.vars) × (t.clauses ≡ set.now.clauses)) }
         ensures empty { IfOk result (λ t. (t.len ≡ 0) × (t.level ≡ 0)) }
     {
         let vars = set.vars();
-        let mut clauses = Vec::new(alloc);
+        let mut clauses = Arena::new(alloc);
         for id in 0..set.len() {
-            let clause = set.clause(id + 1).copy(alloc)?;
-            clauses.reserve(1)?;
-            clauses.push_reserved(clause);
+            clauses.push(set.clause(id + 1).lits())?;
         }
         let none = no_entry();
         let slots = vec![in alloc; none; vars as usize]?;
@@ -149,19 +138,19 @@ impl Store {
         self.slots[(place - 1) as usize].level
     }
 
-    /// The clause of this number, from 1 on.
-    pub fn clause(&self, id: u64) -> &Clause
+    /// The literals of the clause of this number, from 1.
+    pub fn clause(&self, id: u64) -> &[Lit]
         requires sound { IsSound self.now }
-        requires within { (1 ≤ id) × (id ≤ length self.now.clauses.items) }
-        ensures value { numbered self.now.clauses.items id ≡ Some result.now }
+        requires within { (1 ≤ id) × (id ≤ length self.now.clauses) }
+        ensures value { numbered self.now.clauses id ≡ Some result.now }
         ensures sorted { IsClause result.now }
         ensures within { IsWithin result.now self.now.vars }
     {
-        &self.clauses[(id - 1) as usize]
+        self.clauses.lits(id - 1)
     }
 
     /// Makes one more literal true.
-    fn push(&mut self, entry: Entry)
+    pub fn push(&mut self, entry: Entry)
         requires sound { IsSound self.old }
         requires free { IsFree self.old entry.lit }
         requires step { IsStep self.old entry }
@@ -181,7 +170,7 @@ impl Store {
     pub fn decide(&mut self, lit: Lit)
         requires sound { IsSound self.old }
         requires free { IsFree self.old lit }
-        requires closed { IsClosed self.old.clauses.items (truths (entries self.old)) }
+        requires closed { IsClosed self.old.clauses (truths (entries self.old)) }
         ensures sound { IsSound self.new }
         ensures same { IsSame self.old self.new }
         ensures entries { entries self.new ≡ entries self.old ++ record { lit = lit; level = self.old.level + 1; reason = 0 } ∷ [] }
@@ -195,51 +184,23 @@ impl Store {
         });
     }
 
-    /// Looks at clause k, from 0, and makes its literal true where it is unit.
-    fn look(&mut self, k: usize) -> Seen
+    /// Makes the literal of a unit clause true, unless it is so already.
+    pub fn force(&mut self, lit: Lit, id: u64)
         requires sound { IsSound self.old }
-        requires below { k < length self.old.clauses.items }
+        requires within { (1 ≤ lit.var) × (lit.var ≤ self.old.vars) }
+        requires reason { has (truths (entries self.old)) lit ≡ false → IsReason self.old.clauses (truths (entries self.old)) lit id }
         ensures grown { IsGrown self.old self.new }
-        ensures seen { (c : List Literal) → slice_get self.old.clauses.items k ≡ Some c → IsSeen self.old self.new c result }
+        ensures is { has (truths (entries self.new)) lit ≡ true }
     {
-        match status_of(self, self.clauses[k].lits()) {
-            Status::False => Seen::Falsified,
-            Status::Unit(lit) => {
-                let level = self.level;
-                self.push(Entry {
-                    lit,
-                    level,
-                    reason: k as u64 + 1,
-                });
-                Seen::Pushed
-            }
-            Status::Open => Seen::Kept,
+        if self.is_true(lit) {
+            return;
         }
-    }
-
-    /// Makes unit steps until no clause is unit or some clause is false.
-    pub fn propagate(&mut self) -> Reached
-        requires sound { IsSound self.old }
-        ensures grown { IsGrown self.old self.new }
-        ensures reached { IsReached self.new result }
-    {
-        loop {
-            let mut changed = false;
-            for k in 0..self.clauses.len() {
-                match self.look(k) {
-                    Seen::Falsified => {
-                        return Reached::Conflict(k as u64 + 1);
-                    }
-                    Seen::Pushed => {
-                        changed = true;
-                    }
-                    Seen::Kept => {}
-                }
-            }
-            if !changed {
-                return Reached::Closed;
-            }
-        }
+        let level = self.level;
+        self.push(Entry {
+            lit,
+            level,
+            reason: id,
+        });
     }
 
     /// Takes the last literal away.
@@ -275,14 +236,11 @@ impl Store {
         requires sound { IsSound self.old }
         requires within { IsWithin clause self.old.vars }
         ensures sound { IsSound self.new }
-        ensures ok { OnOk result ((self.new.clauses.items ≡ self.old.clauses.items ++ clause ∷ []) × (entries self.new ≡ entries self.old) × (self.new.level ≡ self.old.level) × (self.new.vars ≡ self.old.vars)) }
-        ensures number { IfOk result (λ n. n ≡ length self.old.clauses.items + 1) }
+        ensures ok { OnOk result ((self.new.clauses ≡ self.old.clauses ++ clause ∷ []) × (entries self.new ≡ entries self.old) × (self.new.level ≡ self.old.level) × (self.new.vars ≡ self.old.vars)) }
+        ensures number { IfOk result (λ n. n ≡ length self.old.clauses + 1) }
         ensures err { OnErr result (IsSame self.old self.new × (entries self.new ≡ entries self.old) × (self.new.level ≡ self.old.level)) }
     {
-        // Tells that the literals are sorted.
-        let _ = clause.lits();
-        self.clauses.reserve(1)?;
-        self.clauses.push_reserved(clause);
-        Ok(self.clauses.len() as u64)
+        self.clauses.push(clause.lits())?;
+        Ok(self.clauses.len())
     }
 }

@@ -86,6 +86,24 @@ fn follows_a_chain(rt: HostRuntime) -> Result<(), Fail> {
     Ok(())
 }
 
+/// Whether the first variable makes all others true, and how many clauses were looked at.
+fn looks(alloc: Global, vars: u16) -> Result<(bool, u64), NoMemory> {
+    let set = chain(alloc, vars)?;
+    let mut trail = Trail::new(alloc, &set)?;
+    let reached = decide(&mut trail, set.vars(), Lit::new(1, false));
+    let all = reached == Some(Reached::Closed) && trail.len() == u64::from(vars);
+    Ok((all, trail.looked()))
+}
+
+#[test]
+fn looks_at_few_clauses(rt: HostRuntime) -> Result<(), Fail> {
+    let Ok((all, looked)) = looks(rt.alloc(), 1000) else {
+        return Err(Fail::from("no memory"));
+    };
+    assert!(rt; all && looked <= 2000, "{looked} clauses");
+    Ok(())
+}
+
 /// The level, the reason and the value of the last variable after two decisions, and the count after going back.
 fn last(alloc: Global) -> Result<Option<(u64, Option<u64>, Option<bool>, u64)>, NoMemory> {
     let set = chain(alloc, 4)?;

@@ -3,7 +3,8 @@ ghost use Rattle.lv_clauses.specs.Literals.{IsWithin};
 ghost use Rattle.lv_clauses.specs.Sets.{numbered};
 ghost use Rattle.lv_trail.specs.Trail.{entry, truths, value_in, IsTrail, IsFree, IsSame, IsGrown, IsReached, IsCut, IsClosed, IsReasonOf, IsLevelOf};
 
-use crate::store::{Reached, Store};
+use crate::store::Reached;
+use crate::watched::Watched;
 use lv_bits::NoMemory;
 use lv_clauses::{Clause, ClauseSet, Lit};
 use std::alloc::Global;
@@ -13,18 +14,19 @@ use std::marker::Model;
 /// any other one has a reason, a clause whose other literals were false before.
 #[derive(Drop)]
 pub struct Trail {
-    store: Store,
+    watched: Watched,
 }
 
 impl Model for Trail {
-    ghost use Rattle.lv_trail.specs.Store.{entries, IsSound};
+    ghost use Rattle.lv_trail.specs.Store.{entries};
     ghost use Rattle.lv_trail.specs.Trail.{TrailValue};
+    ghost use Rattle.lv_trail.specs.Watches.{IsWatched};
 
     ghost Value = { TrailValue };
 
-    ghost view = { λ t. record { vars = t.store.vars; clauses = t.store.clauses.items; entries = entries t.store; level = t.store.level } };
+    ghost view = { λ t. record { vars = t.watched.store.vars; clauses = t.watched.store.clauses; entries = entries t.watched.store; level = t.watched.store.level } };
 
-    ghost invariant = { λ t. IsSound t.store };
+    ghost invariant = { λ t. IsWatched t.watched };
 }
 
 impl Trail {
@@ -33,8 +35,8 @@ impl Trail {
         ensures valid { IfOk result IsTrail }
         ensures value { IfOk result (λ t. t ≡ record { vars = set.now.vars; clauses = set.now.clauses; entries = []; level = 0 }) }
     {
-        let store = Store::new(alloc, set)?;
-        Ok(Trail { store })
+        let watched = Watched::new(alloc, set)?;
+        Ok(Trail { watched })
     }
 
     /// The number of true literals.
@@ -42,7 +44,7 @@ impl Trail {
         ensures value { result ≡ length self.now.entries }
         ensures valid { IsTrail self.now }
     {
-        self.store.len()
+        self.watched.store.len()
     }
 
     /// The true literal at place k, from 0.
@@ -50,7 +52,7 @@ impl Trail {
         requires { k < length self.now.entries }
         ensures { result ≡ (entry self.now k).lit }
     {
-        self.store.at(k)
+        self.watched.store.at(k)
     }
 
     /// The value of a variable, if it has one.
@@ -58,7 +60,7 @@ impl Trail {
         requires { (1 ≤ var) × (var ≤ self.now.vars) }
         ensures { result ≡ value_in (truths self.now.entries) var }
     {
-        self.store.value(var)
+        self.watched.store.value(var)
     }
 
     /// The level at which a variable got its value.
@@ -67,7 +69,7 @@ impl Trail {
         requires set { value_in (truths self.now.entries) var ≢ None }
         ensures { IsLevelOf self.now.entries var result }
     {
-        self.store.level(var)
+        self.watched.store.level(var)
     }
 
     /// The number of the clause that gave a variable its value, none where it has no value or was decided.
@@ -75,7 +77,7 @@ impl Trail {
         requires { (1 ≤ var) × (var ≤ self.now.vars) }
         ensures { IsReasonOf self.now.entries var result }
     {
-        self.store.reason(var)
+        self.watched.store.reason(var)
     }
 
     /// The literals of the clause of this number, from 1.
@@ -83,7 +85,7 @@ impl Trail {
         requires { (1 ≤ id) × (id ≤ length self.now.clauses) }
         ensures { numbered self.now.clauses id ≡ Some result.now }
     {
-        self.store.clause(id).lits()
+        self.watched.store.clause(id)
     }
 
     /// Makes a literal true at a new level.
@@ -93,7 +95,7 @@ impl Trail {
         ensures valid { IsTrail self.new }
         ensures value { self.new ≡ record self.old { level = self.old.level + 1; entries = self.old.entries ++ record { lit = lit; level = self.old.level + 1; reason = 0 } ∷ [] } }
     {
-        self.store.decide(lit);
+        self.watched.decide(lit);
     }
 
     /// Makes the last literal of each unit clause true, until no clause is unit or falsified, or gives a clause that is falsified.
@@ -102,7 +104,7 @@ impl Trail {
         ensures grown { IsGrown self.old self.new }
         ensures reached { IsReached self.new result }
     {
-        self.store.propagate()
+        self.watched.propagate()
     }
 
     /// Keeps the levels up to this one.
@@ -111,7 +113,7 @@ impl Trail {
         ensures valid { IsTrail self.new }
         ensures cut { IsCut self.old self.new level }
     {
-        self.store.back(level);
+        self.watched.back(level);
     }
 
     /// Adds a clause, and gives its number.
@@ -122,6 +124,11 @@ impl Trail {
         ensures number { IfOk result (λ n. n ≡ length self.old.clauses + 1) }
         ensures err { OnErr result (self.new ≡ self.old) }
     {
-        self.store.add(clause)
+        self.watched.add(clause)
+    }
+
+    /// The number of clauses that `propagate` has looked at since `new`.
+    pub fn looked(&self) -> u64 {
+        self.watched.looked
     }
 }

@@ -87,7 +87,7 @@ loop-trail-preserved c =
     let jump : IsJump t h.lits n =
     elim c.if-len-half.branch [
       | then-len-half w ↦ subst (λ z. IsJump t h.lits z) (sym w.level-is) (record { below = one; at = λ some. absurd (omega arith) })
-      | else-len-half w ↦ subst (λ z. IsJump t h.lits z) (sym w.level-is) (jump-of t h.lits cl w.jump_level-level.result h.of (subst (λ z. IsJump t z w.jump_level-level.result) w.lits-else-len-half.ensures.value w.jump_level-level.ensures))
+      | else-len-half w ↦ subst (λ z. IsJump t h.lits z) (sym w.level-is) (jump-of t h.lits cl w.back_level-level.result h.of (subst (λ z. IsJump t z w.back_level-level.result) w.lits-else-len-half.ensures.value w.back_level-level.ensures))
     ] in
     let half_or : budget / 2 ≤ length log + 1 → (budget / 2 ≤ length log) ⊎ (n ≡ 0) = λ most.
     elim c.if-len-half.branch [

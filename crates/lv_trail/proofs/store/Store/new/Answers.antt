@@ -10,15 +10,15 @@ pub loop-id-preserved : goal.loop-id-preserved
 loop-id-preserved c =
     let cs : List (List Lit) = c.args.set.now.clauses in
     let k : ℕ = c.loop-id.id in
-    let d : List Lit = c.in_ok-clause.clause in
-    let same : d ≡ c.clause.result.now = c.in_ok-clause.ensures in
+    let d : List Lit = c.lits.result.now in
+    let same : d ≡ c.clause.result.now = c.lits.ensures.value in
     let below : k < length cs = omega (arith, c.loop-id.invariant.count) in
     let at : slice_get cs k ≡ Some c.clause.result.now = number cs k ∙ c.clause.ensures.value in
     let is : get_or cs k [] ≡ d = get_or_from_slice_get cs k c.clause.result.now [] at ∙ sym same in
-    rw (c.push_reserved.ensures.items, c.reserve.ensures.items) (record {
+    rw c.in_ok-push.ensures.ok (record {
       copied = ap (λ z. z ++ d ∷ []) c.loop-id.invariant.copied ∙ (ap (λ z. take k cs ++ z ∷ []) (sym is) ∙ sym (take_more cs k [] below));
       count = c.loop-id.invariant.count;
-      are = are-clauses-push c.vars-vars.result c.loop-id.clauses.items d c.loop-id.invariant.are (subst IsClause (sym same) c.clause.ensures.sorted) (subst (λ z. IsWithin z c.vars-vars.result) (sym same) (subst (λ z. IsWithin c.clause.result.now z) (sym c.vars-vars.ensures) c.clause.ensures.within));
+      are = are-clauses-push c.vars-vars.result c.loop-id.clauses d c.loop-id.invariant.are (subst IsClause (sym same) c.clause.ensures.sorted) (subst (λ z. IsWithin z c.vars-vars.result) (sym same) (subst (λ z. IsWithin c.clause.result.now z) (sym c.vars-vars.ensures) c.clause.ensures.within));
     })
 
 pub returns-clause-sound : goal.returns-clause-sound

@@ -5,7 +5,7 @@ pub decide-requires-clause-closed : goal.decide-requires-clause-closed
 decide-requires-clause-closed c = rw (← c.self.view_is) at c.requires.closed
 
 pub returns-clause-valid : goal.returns-clause-valid
-returns-clause-valid c = valid c.decide.new.self c.decide.ensures.sound
+returns-clause-valid c = valid c.decide.new.self.store c.decide.ensures.watched.sound
 
 pub returns-clause-value : goal.returns-clause-value
 returns-clause-value c =

@@ -1,0 +1,11 @@
+use Rattle.std.proofs.Common.{arith}
+use Rattle.lv_clauses.proofs.Literals.{has-item}
+use Rattle.lv_trail.proofs.search.find_open.Goals as goal
+
+pub list_of-requires : goal.list_of-requires
+list_of-requires c =
+    let w = c.requires.within c.x-item.result (has-item c.args.clause.now c.loop-x.x-index c.x-item.result c.loop-x-test.true c.x-item.is) in
+    omega (arith, w.1, c.requires.few)
+
+pub is_true-requires-clause-within : goal.is_true-requires-clause-within
+is_true-requires-clause-within c = rw c.negated.ensures (c.requires.within c.x-item.result (has-item c.args.clause.now c.loop-x.x-index c.x-item.result c.loop-x-test.true c.x-item.is))

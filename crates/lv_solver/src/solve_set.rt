@@ -122,12 +122,8 @@ pub fn solve(alloc: Global, set: &ClauseSet, budget: u64) -> Result<Answer, NoMe
     loop {
         match trail.propagate() {
             Reached::Closed => match choose(&trail, vars, &mut order, log.len() >= half) {
-                None => {
-                    return Ok(Answer::Model(values(alloc, &trail, vars)?));
-                }
-                Some(lit) => {
-                    trail.decide(lit);
-                }
+                None => return Ok(Answer::Model(values(alloc, &trail, vars)?)),
+                Some(lit) => trail.decide(lit),
             },
             Reached::Conflict(id) => {
                 if log.len() >= budget {
@@ -141,11 +137,10 @@ pub fn solve(alloc: Global, set: &ClauseSet, budget: u64) -> Result<Answer, NoMe
                     return Ok(Answer::Refuted(log));
                 }
                 order.reward(clause.lits());
-                let due = order.is_due();
                 let level = if log.len() == half {
                     0
                 } else {
-                    back_level(&trail, top, clause.lits(), due)
+                    back_level(&trail, top, clause.lits(), order.is_due())
                 };
                 order.save(&trail, level);
                 trail.back(level);

@@ -12,8 +12,6 @@ mod read;
 mod stack;
 mod steps;
 mod symbol;
-#[cfg(test)]
-mod tests;
 
 pub use definite::read_definite;
 pub use error::SyntaxError;

@@ -10,8 +10,6 @@ mod macros;
 mod output;
 mod scan;
 mod spans;
-#[cfg(test)]
-mod tests;
 mod words;
 
 pub use error::{DirectiveError, LexError};

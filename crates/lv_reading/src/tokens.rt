@@ -1,7 +1,7 @@
-use crate::spans::token_bytes;
-use crate::{DirectiveError, LexError, directives, lex};
+//! Tokens and directives.
 use lv_ast::Kind::{Based, Escaped, Join, Line, Mark, Name, Number, System, Tick, Word};
 use lv_ast::{Kind, Token};
+use lv_lexer::{DirectiveError, LexError, directives, lex};
 use std::alloc::{AllocError, Global};
 use std::process::Abort;
 use std::test::Fail;
@@ -146,8 +146,10 @@ fn folds(rt: &impl Abort, alloc: Global, text: &[u8], expected: &[u8]) -> Result
         Ok(folded) => {
             let mut written: Vec<u8> = Vec::new(alloc);
             for token in folded.list.as_slice() {
-                for byte in token_bytes(text, *token) {
-                    written.push(*byte)?;
+                for at in token.start..token.end {
+                    if let Some(byte) = text.get(at as usize) {
+                        written.push(*byte)?;
+                    }
                 }
                 written.push(b' ')?;
             }

@@ -1,54 +1,10 @@
-//! Tokens stand between spaces. The trees are written by hand, each node in parentheses.
-use crate::error::SyntaxError;
-use crate::read::read;
-use lv_ast::{Expr, Kind, Literal, Path, Select, Token};
+//! Expressions: the trees are written by hand, each node in parentheses.
+use lv_ast::{Expr, Literal, Path, Select};
 use lv_bits::Op;
+use lv_exprs::{SyntaxError, read_expr};
+use lv_lexer::lex;
 use std::alloc::Global;
 use std::test::Fail;
-
-fn kind_of(byte: u8) -> Kind {
-    match byte {
-        b'\\' => Kind::Escaped,
-        b'$' => Kind::System,
-        b'\'' => Kind::Based,
-        b'_' => Kind::Name,
-        _ if byte.is_ascii_alphabetic() => Kind::Name,
-        _ if byte.is_ascii_digit() => Kind::Number,
-        _ => Kind::Mark,
-    }
-}
-
-fn tokens_of(alloc: Global, text: &[u8]) -> Result<Vec<Token>, Fail> {
-    let mut list = Vec::new(alloc);
-    let mut token = None;
-    let mut at = 0u64;
-    for byte in text {
-        if *byte == b' ' {
-            if let Some(whole) = token {
-                list.push(whole)?;
-            }
-            token = None;
-        } else {
-            token = match token {
-                None => Some(Token {
-                    kind: kind_of(*byte),
-                    start: at,
-                    end: at.saturating_add(1),
-                }),
-                Some(Token { kind, start, .. }) => Some(Token {
-                    kind,
-                    start,
-                    end: at.saturating_add(1),
-                }),
-            };
-        }
-        at = at.saturating_add(1);
-    }
-    if let Some(whole) = token {
-        list.push(whole)?;
-    }
-    Ok(list)
-}
 
 fn op_text(op: Op) -> &'static str {
     match op {
@@ -215,9 +171,12 @@ fn show(alloc: Global, out: &mut Vec<u8>, e: &Expr) -> Result<(), Fail> {
 }
 
 /// The number of tokens and the tree, or the refusal.
-fn answer(alloc: Global, text: &[u8], tokens: &[Token], paths: bool) -> Result<Vec<u8>, Fail> {
+fn answer(alloc: Global, text: &[u8], paths: bool) -> Result<Vec<u8>, Fail> {
     let mut out = Vec::new(alloc);
-    match read(alloc, text, tokens, paths) {
+    let Ok(tokens) = lex(alloc, text) else {
+        return Err(Fail::from("no tokens"));
+    };
+    match read_expr(alloc, &tokens, 0, paths) {
         Ok((e, end)) => {
             put(&mut out, format!(in alloc; "{} ", end)?.as_str())?;
             show(alloc, &mut out, &e)?;
@@ -318,8 +277,7 @@ const ROWS: [(&str, &str); 83] = [
 #[test]
 fn rows(rt: HostRuntime) -> Result<(), Fail> {
     for (text, want) in ROWS.iter() {
-        let tokens = tokens_of(rt.alloc(), text.as_bytes())?;
-        let got = answer(rt.alloc(), text.as_bytes(), tokens.as_slice(), false)?;
+        let got = answer(rt.alloc(), text.as_bytes(), false)?;
         assert!(rt; got.as_slice() == want.as_bytes(), "{text}");
     }
     Ok(())
@@ -339,35 +297,15 @@ const PATHS: [(&str, &str, &str); 8] = [
 #[test]
 fn paths(rt: HostRuntime) -> Result<(), Fail> {
     for (text, plain, with) in PATHS.iter() {
-        let tokens = tokens_of(rt.alloc(), text.as_bytes())?;
-        let got = answer(rt.alloc(), text.as_bytes(), tokens.as_slice(), false)?;
+        let got = answer(rt.alloc(), text.as_bytes(), false)?;
         assert!(rt; got.as_slice() == plain.as_bytes(), "{text}");
-        let got = answer(rt.alloc(), text.as_bytes(), tokens.as_slice(), true)?;
+        let got = answer(rt.alloc(), text.as_bytes(), true)?;
         assert!(rt; got.as_slice() == with.as_bytes(), "{text}");
     }
     Ok(())
 }
 
-/// Tokens of one byte each, a part repeated before and a part repeated behind a middle.
-fn nested(
-    alloc: Global,
-    times: u32,
-    before: &[Token],
-    middle: &[Token],
-    behind: &[Token],
-) -> Result<Vec<Token>, Fail> {
-    let mut list = Vec::new(alloc);
-    for _ in 0..times {
-        list.extend_from_slice(before)?;
-    }
-    list.extend_from_slice(middle)?;
-    for _ in 0..times {
-        list.extend_from_slice(behind)?;
-    }
-    Ok(list)
-}
-
-/// The number of tokens that are read, or the refusal, of one such list.
+/// The number of tokens that are read, or the refusal, of a part repeated before and a part repeated behind a middle.
 fn deep(
     alloc: Global,
     paths: bool,
@@ -376,44 +314,25 @@ fn deep(
     middle: &[u8],
     behind: &[u8],
 ) -> Result<Vec<u8>, Fail> {
-    let text = b"a~+&?:[]().1".as_slice();
-    let before = spread(alloc, text, before)?;
-    let middle = spread(alloc, text, middle)?;
-    let behind = spread(alloc, text, behind)?;
-    let list = nested(
-        alloc,
-        times,
-        before.as_slice(),
-        middle.as_slice(),
-        behind.as_slice(),
-    )?;
+    let mut text = Vec::new(alloc);
+    for _ in 0..times {
+        text.extend_from_slice(before)?;
+    }
+    text.extend_from_slice(middle)?;
+    for _ in 0..times {
+        text.extend_from_slice(behind)?;
+    }
+    let Ok(tokens) = lex(alloc, text.as_slice()) else {
+        return Err(Fail::from("no tokens"));
+    };
     let mut out = Vec::new(alloc);
-    match read(alloc, text, list.as_slice(), paths) {
+    match read_expr(alloc, &tokens, 0, paths) {
         Ok((_, end)) => put(&mut out, format!(in alloc; "{}", end)?.as_str())?,
         Err(SyntaxError::Syntax(k)) => put(&mut out, format!(in alloc; "syntax {}", k)?.as_str())?,
         Err(SyntaxError::Depth(k)) => put(&mut out, format!(in alloc; "depth {}", k)?.as_str())?,
         Err(SyntaxError::NoMemory) => put(&mut out, "no memory")?,
     }
     Ok(out)
-}
-
-/// The tokens of one byte each, found in the text.
-fn spread(alloc: Global, text: &[u8], bytes: &[u8]) -> Result<Vec<Token>, Fail> {
-    let mut list = Vec::new(alloc);
-    for byte in bytes {
-        let mut at = 0u64;
-        for other in text {
-            if *other == *byte {
-                list.push(Token {
-                    kind: kind_of(*byte),
-                    start: at,
-                    end: at.saturating_add(1),
-                })?;
-            }
-            at = at.saturating_add(1);
-        }
-    }
-    Ok(list)
 }
 
 const HEIGHTS: [(bool, u32, &str, &str, &str, &str); 21] = [
@@ -436,8 +355,8 @@ const HEIGHTS: [(bool, u32, &str, &str, &str, &str); 21] = [
     (true, 198, "~", "a[1]", "", "202"),
     (true, 200, "~", "a[1].a", "", "depth 201"),
     (false, 200000, "(", "a", ")", "400001"),
-    (false, 200000, "(", "a", "", "syntax 200001"),
-    (true, 200000, "+(", "a", ")", "600001"),
+    (false, 50000, "(", "a", "", "syntax 50001"),
+    (true, 50000, "+(", "a", ")", "150001"),
 ];
 
 #[test]

@@ -105,7 +105,7 @@ module _ (t : TrailValue) (s : IsTrail t) (k : ℕ) (b : k < length t.entries) (
         | inr y ↦ absurd (not-early t s k j a c (subst (λ z. has (truths (take k t.entries)) z ≡ true) (negated-negated (entry t j).lit) (unit.others (negated (entry t j).lit) y.0 y.1)))
       ]
 
-flip-back : (l m : Lit) → negated l ≡ negated m → l ≡ m
+pub flip-back : (l m : Lit) → negated l ≡ negated m → l ≡ m
 flip-back l m e = sym (negated-negated l) ∙ (ap negated e ∙ negated-negated m)
 
 -- where all are decisions, at most one is of the last level

@@ -1,12 +1,17 @@
-ghost use Rattle.std.specs.Prelude.{◌≡◌, ℕ, ◌<◌, ◌≤◌, length, IfOk, IsTrue};
+ghost use Rattle.std.specs.Prelude.{◌≡◌, ℕ, ◌<◌, ◌≤◌, length, IfOk, OnOk, IsTrue};
+ghost use Rattle.std.specs.List.{filter};
 ghost use Rattle.lv_clauses.specs.Literals.{has, negated};
 ghost use Rattle.lv_trail.specs.Trail.{IsTrail, IsReached, entry, truths};
 ghost use Rattle.lv_trail.specs.declared.store.Reached.TheVariants.{Conflict};
+ghost use Rattle.lv_solver.specs.Seen.{kept};
+ghost use Rattle.lv_solver.specs.Resolving.{IsDerived, IsResolved};
 ghost use Rattle.lv_solver.specs.Learning.{AreFalse, IsAsserting, IsFalseAt, IsJump, IsLearnt, IsSteady};
 
-use crate::resolve::resolve;
+use crate::minimize::minimize;
+use crate::resolve::{reason_at, resolve, see_all};
+use crate::seen::Seen;
 use lv_bits::NoMemory;
-use lv_clauses::{Lit, has_lit};
+use lv_clauses::Lit;
 use lv_trail::Trail;
 use std::alloc::Global;
 
@@ -28,18 +33,6 @@ pub fn top_level(trail: &Trail) -> u64
     trail.level(trail.at(len - 1).var())
 }
 
-/// The clause that made the literal at place k true, or 0 where it was decided.
-fn reason_at(trail: &Trail, k: u64) -> u64
-    requires sound { IsTrail trail.now }
-    requires below { k < length trail.now.entries }
-    ensures { result ≡ (entry trail.now k).reason }
-{
-    match trail.reason(trail.at(k).var()) {
-        Some(reason) => reason,
-        None => 0,
-    }
-}
-
 /// The level at which a literal became false.
 fn level_of(trail: &Trail, lit: Lit) -> u64
     requires sound { IsTrail trail.now }
@@ -49,16 +42,17 @@ fn level_of(trail: &Trail, lit: Lit) -> u64
     trail.level(lit.var())
 }
 
-/// Whether at most one of these is of the last level.
-fn is_asserting(trail: &Trail, top: u64, lits: &[Lit]) -> bool
+/// Whether at most one of the literals that are kept is of the last level.
+fn is_asserting(trail: &Trail, top: u64, seen: &Seen) -> bool
     requires sound { IsTrail trail.now }
     requires top { top ≡ trail.now.level }
-    requires false_all { AreFalse trail.now lits.now }
-    ensures { IsTrue result → IsAsserting trail.now lits.now }
+    requires sized { length seen.now.turns ≡ trail.now.vars }
+    requires false_all { AreFalse trail.now seen.now.lits }
+    ensures { IsTrue result → IsAsserting trail.now (kept seen.now) }
 {
     let mut late: Option<Lit> = None;
-    for x in lits {
-        if level_of(trail, *x) == top {
+    for x in seen.lits() {
+        if seen.has(x.var()) && level_of(trail, *x) == top {
             match late {
                 Some(_) => {
                     return false;
@@ -104,10 +98,60 @@ pub fn back_level(trail: &Trail, top: u64, lits: &[Lit], anew: bool) -> u64
     jump_level(trail, top, lits)
 }
 
-/// Resolves a false clause with reasons, until one literal of the last level is left, or until all are negations of decisions.
+/// Resolves with reasons from the last true literal on, until one literal of the last level is left, or until all are negations of decisions,
+/// and gives the place that was reached.
+fn resolve_all(
+    trail: &Trail,
+    seen: &mut Seen,
+    hints: &mut Vec<u64>,
+    top: u64,
+    first: u64,
+    all: bool,
+) -> Result<u64, NoMemory>
+    requires sound { IsTrail trail.now }
+    requires steady { IsSteady trail.now }
+    requires top { top ≡ trail.now.level }
+    requires derived { IsDerived trail.now seen.old hints.old.items }
+    ensures resolved { OnOk result (IsResolved trail.now all seen.new hints.new.items) }
+    ensures within { IfOk result (λ at. at ≤ length trail.now.entries) }
+{
+    // `late` only says when to look: how many are left of the last level.
+    let mut late = first;
+    let mut at = trail.len();
+    while at > 0 {
+        if !all && late <= 1 && is_asserting(trail, top, seen) {
+            break;
+        }
+        at -= 1;
+        let reason = reason_at(trail, at);
+        if reason != 0 && seen.has(trail.at(at).var()) {
+            let new = resolve(trail, seen, hints, top, at, reason)?;
+            late = late.saturating_add(new).saturating_sub(1);
+        }
+    }
+    Ok(at)
+}
+
+/// A copy of the literals that are kept.
+fn copied(alloc: Global, seen: &Seen) -> Result<Vec<Lit>, NoMemory>
+    requires { (m : Lit) → IsTrue (has seen.now.lits m) → m.var ≤ length seen.now.turns }
+    ensures { IfOk result (λ v. v.items ≡ kept seen.now) }
+{
+    let mut lits = Vec::new(alloc);
+    for x in seen.lits() {
+        if seen.has(x.var()) {
+            lits.reserve(1)?;
+            lits.push_reserved(*x);
+        }
+    }
+    Ok(lits)
+}
+
+/// Resolves a false clause with reasons, and leaves out what follows from the rest.
 pub fn analyze(
     alloc: Global,
     trail: &Trail,
+    seen: &mut Seen,
     top: u64,
     id: u64,
     all: bool,
@@ -116,26 +160,18 @@ pub fn analyze(
     requires steady { IsSteady trail.now }
     requires top { top ≡ trail.now.level }
     requires conflict { IsReached trail.now (Conflict id) }
-    ensures { IfOk result (λ l. IsLearnt trail.now all l.lits.items l.hints.items) }
+    requires sized { length seen.old.turns ≡ trail.now.vars }
+    ensures learnt { IfOk result (λ l. IsLearnt trail.now all l.lits.items l.hints.items) }
+    ensures sized { OnOk result (length seen.new.turns ≡ trail.now.vars) }
 {
-    let mut lits = Vec::from_slice(alloc, trail.clause(id))?;
     let mut hints = Vec::new(alloc);
     hints.reserve(1)?;
     hints.push_reserved(id);
-    let mut at = trail.len();
-    while at > 0 {
-        if !all && is_asserting(trail, top, &lits) {
-            break;
-        }
-        at -= 1;
-        let lit = trail.at(at);
-        let reason = reason_at(trail, at);
-        if reason != 0 && has_lit(&lits, lit.negated()) {
-            lits = resolve(alloc, &lits, lit, trail.clause(reason))?;
-            hints.reserve(1)?;
-            hints.push_reserved(reason);
-        }
-    }
+    seen.begin();
+    let late = see_all(trail, seen, top, trail.clause(id))?;
+    let at = resolve_all(trail, seen, &mut hints, top, late, all)?;
+    minimize(trail, seen, &mut hints, at)?;
+    let lits = copied(alloc, seen)?;
     hints.reverse();
     Ok(Learnt { lits, hints })
 }

@@ -1,12 +1,13 @@
-ghost use Rattle.std.specs.Prelude.{◌≡◌, ℕ, ◌≤◌, IfOk, false};
+ghost use Rattle.std.specs.Prelude.{◌≡◌, ℕ, ◌≤◌, length, IfOk, OnOk, false};
 ghost use Rattle.lv_clauses.specs.Literals.{has, IsClauseOf};
-ghost use Rattle.lv_trail.specs.Trail.{IsTrail, IsReached, truths};
+ghost use Rattle.lv_trail.specs.Trail.{IsTrail, IsGrown, IsReached, truths};
 ghost use Rattle.lv_trail.specs.declared.store.Reached.TheVariants.{Conflict};
 ghost use Rattle.lv_solver.specs.Learning.{AreFalse, IsSteady};
 ghost use Rattle.lv_solver.specs.Solving.{IsPick, IsChoice, IsAnswer, Values, HasLearnt};
 
 use crate::analyze::{analyze, back_level, top_level};
 use crate::order::Order;
+use crate::seen::Seen;
 use lv_bits::NoMemory;
 use lv_clauses::{Assignment, Clause, ClauseSet, Derivation, Line, Lit};
 use lv_trail::{Reached, Trail};
@@ -18,6 +19,27 @@ pub enum Answer {
     Model(Assignment),
     Refuted(Derivation),
     Budget(Derivation),
+}
+
+/// How many literals became true by unit steps, and how many clauses were looked at for them. Nothing is claimed of it.
+#[derive(Clone, Copy)]
+pub struct Work {
+    pub steps: u64,
+    pub looks: u64,
+}
+
+/// Unit steps, which are counted.
+fn propagate(trail: &mut Trail, work: &mut Work) -> Reached
+    ensures valid { IsTrail trail.new }
+    ensures grown { IsGrown trail.old trail.new }
+    ensures reached { IsReached trail.new result }
+{
+    let before = trail.len();
+    let reached = trail.propagate();
+    let steps = trail.len().saturating_sub(before);
+    work.steps = work.steps.saturating_add(steps);
+    work.looks = trail.looked();
+    reached
 }
 
 /// The first variable without a value.
@@ -90,6 +112,7 @@ fn clause_of(alloc: Global, trail: &Trail, lits: &[Lit]) -> Result<Clause, NoMem
 fn learn(
     alloc: Global,
     trail: &Trail,
+    seen: &mut Seen,
     log: &mut Derivation,
     top: u64,
     id: u64,
@@ -99,9 +122,11 @@ fn learn(
     requires steady { IsSteady trail.now }
     requires top { top ≡ trail.now.level }
     requires conflict { IsReached trail.now (Conflict id) }
-    ensures { IfOk result (λ c. HasLearnt trail.now all log.old log.new c) }
+    requires sized { length seen.old.turns ≡ trail.now.vars }
+    ensures learnt { IfOk result (λ c. HasLearnt trail.now all log.old log.new c) }
+    ensures sized { OnOk result (length seen.new.turns ≡ trail.now.vars) }
 {
-    let learnt = analyze(alloc, trail, top, id, all)?;
+    let learnt = analyze(alloc, trail, seen, top, id, all)?;
     let clause = clause_of(alloc, trail, &learnt.lits)?;
     let copy = clause.copy(alloc)?;
     log.push(Line::new(clause, learnt.hints))?;
@@ -114,13 +139,27 @@ fn learn(
 pub fn solve(alloc: Global, set: &ClauseSet, budget: u64) -> Result<Answer, NoMemory>
     ensures { IfOk result (IsAnswer set.now budget) }
 {
+    let mut work = Work { steps: 0, looks: 0 };
+    solve_counted(alloc, set, budget, &mut work)
+}
+
+/// As `solve`, with the work counted.
+pub fn solve_counted(
+    alloc: Global,
+    set: &ClauseSet,
+    budget: u64,
+    work: &mut Work,
+) -> Result<Answer, NoMemory>
+    ensures { IfOk result (IsAnswer set.now budget) }
+{
     let vars = set.vars();
     let half = budget / 2;
     let mut trail = Trail::new(alloc, set)?;
     let mut log = Derivation::new(alloc);
     let mut order = Order::new(alloc, vars)?;
+    let mut seen = Seen::new(alloc, vars)?;
     loop {
-        match trail.propagate() {
+        match propagate(&mut trail, work) {
             Reached::Closed => match choose(&trail, vars, &mut order, log.len() >= half) {
                 None => return Ok(Answer::Model(values(alloc, &trail, vars)?)),
                 Some(lit) => trail.decide(lit),
@@ -132,7 +171,7 @@ pub fn solve(alloc: Global, set: &ClauseSet, budget: u64) -> Result<Answer, NoMe
                 let top = top_level(&trail);
                 let root = top == 0;
                 let all = root || log.len() >= half;
-                let clause = learn(alloc, &trail, &mut log, top, id, all)?;
+                let clause = learn(alloc, &trail, &mut seen, &mut log, top, id, all)?;
                 if root {
                     return Ok(Answer::Refuted(log));
                 }

@@ -5,21 +5,22 @@ use Rattle.lv_solver.specs.Learning.{IsLearnt, IsJump}
 use Rattle.lv_solver.proofs.Learning.{false-within}
 use Rattle.lv_solver.proofs.Running.{run-grown, run-decided}
 use Rattle.lv_solver.proofs.Logging.{satisfied, refuted, enough, log-push, learnt-line, learnt-late, learnt-nothing, learnt-follows, jump-of, run-back}
-use Rattle.lv_solver.proofs.solve_set.solve.Goals as goal
-use Rattle.lv_solver.proofs.solve_set.solve.Goals.{then-root, else-root, then-len-half, else-len-half}
+use Rattle.lv_solver.proofs.solve_set.solve_counted.Goals as goal
+use Rattle.lv_solver.proofs.solve_set.solve_counted.Goals.{then-root, else-root, then-len-half, else-len-half}
 
 pub returns-in-None : goal.returns-in-None
 returns-in-None c =
-    let run = run-grown c.args.set.now c.args.budget c.loop-trail.trail c.propagate.new.self c.loop-trail.log c.loop-trail.invariant.run c.in-Closed.ensures.valid c.in-Closed.ensures.grown in
-    satisfied c.args.set.now c.args.budget c.propagate.new.self c.loop-trail.log c.in_ok-values-in-None.field-0 run c.in-Closed.ensures.reached c.in-None.ensures c.in_ok-values-in-None.ensures
+    let run = run-grown c.args.set.now c.args.budget c.loop-trail.trail c.propagate.new.trail c.loop-trail.log c.loop-trail.invariant.run c.in-Closed.ensures.valid c.in-Closed.ensures.grown in
+    satisfied c.args.set.now c.args.budget c.propagate.new.trail c.loop-trail.log c.in_ok-values-in-None.field-0 run c.in-Closed.ensures.reached c.in-None.ensures c.in_ok-values-in-None.ensures
 
 pub loop-trail-preserved-in-Some : goal.loop-trail-preserved-in-Some
 loop-trail-preserved-in-Some c =
-    let run = run-grown c.args.set.now c.args.budget c.loop-trail.trail c.propagate.new.self c.loop-trail.log c.loop-trail.invariant.run c.in-Closed.ensures.valid c.in-Closed.ensures.grown in
+    let run = run-grown c.args.set.now c.args.budget c.loop-trail.trail c.propagate.new.trail c.loop-trail.log c.loop-trail.invariant.run c.in-Closed.ensures.valid c.in-Closed.ensures.grown in
     record {
-      run = run-decided c.args.set.now c.args.budget c.propagate.new.self c.decide.new.self c.loop-trail.log c.in-Some.lit run c.in-Closed.ensures.reached c.in-Some.ensures.0
+      run = run-decided c.args.set.now c.args.budget c.propagate.new.trail c.decide.new.self c.loop-trail.log c.in-Some.lit run c.in-Closed.ensures.reached c.in-Some.ensures.0
           (λ half. c.in-Some.ensures.1 (le-leb (c.args.budget / 2) c.len.result (omega (arith, half, c.len.ensures)))) c.decide.ensures.valid c.decide.ensures.value;
       log = c.loop-trail.invariant.log;
+      sized = c.loop-trail.invariant.sized ∙ (sym c.in-Closed.ensures.grown.same.vars ∙ sym (ap (λ z. z.vars) c.decide.ensures.value));
     }
 
 pub returns-then-len-budget : goal.returns-then-len-budget
@@ -29,16 +30,19 @@ returns-then-len-budget c =
     (record { derivation = log.derivation; fresh = log.fresh; count = count; decided = log.late }, λ d dec. enough c.args.set.now c.args.budget c.loop-trail.log log count d dec)
 
 pub learn-requires-clause-steady : goal.learn-requires-clause-steady
-learn-requires-clause-steady c = (run-grown c.args.set.now c.args.budget c.loop-trail.trail c.propagate.new.self c.loop-trail.log c.loop-trail.invariant.run c.in-Conflict.ensures.valid c.in-Conflict.ensures.grown).steady
+learn-requires-clause-steady c = (run-grown c.args.set.now c.args.budget c.loop-trail.trail c.propagate.new.trail c.loop-trail.log c.loop-trail.invariant.run c.in-Conflict.ensures.valid c.in-Conflict.ensures.grown).steady
+
+pub learn-requires-clause-sized : goal.learn-requires-clause-sized
+learn-requires-clause-sized c = c.loop-trail.invariant.sized ∙ sym c.in-Conflict.ensures.grown.same.vars
 
 pub returns-then-root-2 : goal.returns-then-root-2
 returns-then-root-2 c =
     let set = c.args.set.now in
     let budget : ℕ = c.args.budget in
-    let t = c.propagate.new.self in
+    let t = c.propagate.new.trail in
     let log = c.loop-trail.log in
     let run = run-grown set budget c.loop-trail.trail t log c.loop-trail.invariant.run c.in-Conflict.ensures.valid c.in-Conflict.ensures.grown in
-    let h = c.in_ok-clause-in-Conflict.ensures in
+    let h = c.in_ok-clause-in-Conflict.ensures.learnt in
     let cl = c.in_ok-clause-in-Conflict.clause in
     let less : length log < budget = omega (arith, c.len-in-Conflict.ensures, c.if-len-budget.false) in
     elim c.if-root.branch [
@@ -53,8 +57,8 @@ returns-then-root-2 c =
 
 pub add-requires : goal.add-requires
 add-requires c =
-    let h = c.in_ok-clause-in-Conflict.ensures in
-    λ l i. let w = false-within c.propagate.new.self c.in-Conflict.ensures.valid h.lits h.learnt.false_all l (sym (h.of.members l) ∙ i) in (w.0, omega (arith, w.1, c.back.ensures.cut.same.vars))
+    let h = c.in_ok-clause-in-Conflict.ensures.learnt in
+    λ l i. let w = false-within c.propagate.new.trail c.in-Conflict.ensures.valid h.lits h.learnt.false_all l (sym (h.of.members l) ∙ i) in (w.0, omega (arith, w.1, c.back.ensures.cut.same.vars))
 
 fall : (a v x y : ℕ) → x ≤ v → a * (v + 1) + x < (a + 1) * (v + 1) + y
 fall a v x y h = omega arith
@@ -62,7 +66,7 @@ fall a v x y h = omega arith
 pub loop-trail-smaller : goal.loop-trail-smaller
 loop-trail-smaller c =
     let log = c.loop-trail.log in
-    let h = c.in_ok-clause-in-Conflict.ensures in
+    let h = c.in_ok-clause-in-Conflict.ensures.learnt in
     let less : length log < c.args.budget = omega (arith, c.len-in-Conflict.ensures, c.if-len-budget.false) in
     let vars : c.add.new.self.vars ≡ c.loop-trail.trail.vars = ap (λ z. z.vars) c.in_ok-add-in-Conflict.ensures.ok ∙ (c.back.ensures.cut.same.vars ∙ c.in-Conflict.ensures.grown.same.vars) in
     let len : length c.learn.new.log ≡ length log + 1 = omega (arith, ap length h.log, length-append log (record { clause = c.in_ok-clause-in-Conflict.clause; hints = h.hints } ∷ [])) in
@@ -74,10 +78,10 @@ pub loop-trail-preserved : goal.loop-trail-preserved
 loop-trail-preserved c =
     let set = c.args.set.now in
     let budget : ℕ = c.args.budget in
-    let t = c.propagate.new.self in
+    let t = c.propagate.new.trail in
     let log = c.loop-trail.log in
     let run = run-grown set budget c.loop-trail.trail t log c.loop-trail.invariant.run c.in-Conflict.ensures.valid c.in-Conflict.ensures.grown in
-    let h = c.in_ok-clause-in-Conflict.ensures in
+    let h = c.in_ok-clause-in-Conflict.ensures.learnt in
     let cl = c.in_ok-clause-in-Conflict.clause in
     let step : Step = record { clause = cl; hints = h.hints } in
     let less : length log < budget = omega (arith, c.len-in-Conflict.ensures, c.if-len-budget.false) in
@@ -104,4 +108,5 @@ loop-trail-preserved c =
       run = run-back set budget t c.back.new.self c.add.new.self log c.if-root.all h.lits h.hints cl n run h.learnt h.of one jump c.back.ensures.cut c.in_ok-add-in-Conflict.ensures.valid c.in_ok-add-in-Conflict.ensures.ok half_or;
       log = log-push set budget log step c.loop-trail.invariant.log line less
           (λ d dec half. learnt-late set budget t log h.lits h.hints cl run (subst (λ z. IsLearnt t z h.lits h.hints) (all_when half) h.learnt) h.of half d dec);
+      sized = c.in_ok-clause-in-Conflict.ensures.sized ∙ (sym c.back.ensures.cut.same.vars ∙ sym (ap (λ z. z.vars) c.in_ok-add-in-Conflict.ensures.ok));
     })

@@ -1,14 +1,14 @@
 -- What hints derive, from resolvent to resolvent.
-use Rattle.std.proofs.Common.{◌≡◌, ℕ, zero, suc, ◌<◌, ◌≤◌, Bool, true, false, List, [], ◌∷◌, ◌++◌, map, take, length, reverse, refl, sym, ◌∙◌, ap, subst, arith, ◌⊎◌, inl, inr}
-use Rattle.std.specs.Prelude.{IsTrue, Some}
+use Rattle.std.proofs.Common.{◌≡◌, ℕ, zero, suc, ◌<◌, ◌≤◌, Bool, true, List, [], ◌∷◌, ◌++◌, map, take, length, reverse, refl, sym, ◌∙◌, ap, subst, arith, inl, inr}
+use Rattle.std.specs.Prelude.{Some}
 use Rattle.std.proofs.lemmas.Bool.{true≢false}
 use Rattle.std.proofs.lemmas.List.{reverse-append}
-use Rattle.lv_clauses.specs.Literals.{Lit, negated, has, IsClause}
+use Rattle.lv_clauses.specs.Literals.{Lit, negated, has}
 use Rattle.lv_clauses.specs.Sets.{numbered}
 use Rattle.lv_clauses.proofs.Literals.{negated-negated, has-negated}
 use Rattle.lv_trail.specs.Trail.{TrailValue, entry, truths, IsTrail, IsUnit}
 use Rattle.lv_solver.specs.Seen.{SeenValue, is_seen, kept, IsSeen, HasSeenAll, HasLeft}
-use Rattle.lv_solver.specs.Learning.{AreFalse, IsAsserting, IsLearnt}
+use Rattle.lv_solver.specs.Learning.{AreFalse, IsLearnt}
 use Rattle.lv_solver.specs.Resolving.{IsResolvent, IsDerived, HasResolved, IsPartDerived, IsResolved}
 use Rattle.lv_solver.proofs.Learning.{some_same, entry-at, at-entry, early-true, lit-within, numbered-clause, flip-back}
 use Rattle.lv_solver.proofs.Walking.{walk-last, walk-more, walk-resolved, negated-in}

@@ -21,11 +21,23 @@ pub enum Answer {
     Budget(Derivation),
 }
 
-/// How many literals became true by unit steps, and how many clauses were looked at for them. Nothing is claimed of it.
+/// How many conflicts there were, how many literals became true by unit steps, and how many clauses were looked at for them.
+/// Nothing is claimed of it.
 #[derive(Clone, Copy)]
 pub struct Work {
+    pub conflicts: u64,
     pub steps: u64,
     pub looks: u64,
+}
+
+impl Work {
+    pub fn none() -> Work {
+        Work {
+            conflicts: 0,
+            steps: 0,
+            looks: 0,
+        }
+    }
 }
 
 /// Unit steps, which are counted.
@@ -39,6 +51,9 @@ fn propagate(trail: &mut Trail, work: &mut Work) -> Reached
     let steps = trail.len().saturating_sub(before);
     work.steps = work.steps.saturating_add(steps);
     work.looks = trail.looked();
+    if let Reached::Conflict(_) = &reached {
+        work.conflicts = work.conflicts.saturating_add(1);
+    }
     reached
 }
 
@@ -139,7 +154,7 @@ fn learn(
 pub fn solve(alloc: Global, set: &ClauseSet, budget: u64) -> Result<Answer, NoMemory>
     ensures { IfOk result (IsAnswer set.now budget) }
 {
-    let mut work = Work { steps: 0, looks: 0 };
+    let mut work = Work::none();
     solve_counted(alloc, set, budget, &mut work)
 }
 

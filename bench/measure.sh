@@ -14,17 +14,19 @@ least() {
     done | sort -n | head -1
 }
 
-echo '| file | answer | lines | seconds | unit steps | steps a second | looks | CaDiCaL conflicts | seconds | propagations | a second |'
+echo '| file | answer of both | conflicts | seconds | unit steps | a second | looks | CaDiCaL'"'"'s conflicts | seconds | propagations | a second |'
+echo '|---|---|---|---|---|---|---|---|---|---|---|'
 for file in subtraction16 subtraction32 pigeons6 pigeons8 random1 random2 random3 random4 random5 commutes5 \
     chain10000 chain100000 chain125000 chain250000 chain500000 chain1000000 \
-    read125000 read250000 read500000 read1000000 falls125000 falls250000 falls500000 falls1000000; do
+    falls125000 falls250000 falls500000 falls1000000 read125000 read250000 read500000 read1000000; do
     own=$(least /tmp/own.out "$folder/$file.cnf" "$program")
     other=$(least /tmp/other.out "$folder/$file.cnf" cadical)
     awk -v file="$file" -v own="$own" -v other="$other" '
-        function rate(count, seconds) { return seconds > 0 ? sprintf("%.2f million", count / seconds / 1e6) : "" }
-        NR == FNR { gsub(",", ""); answer = $1; lines = $2; steps = $4; looks = $6; next }
-        /^c conflicts:/ { conflicts = $3 }
+        function rate(count, seconds) { return count > 0 && seconds > 0 ? sprintf("%.1f million", count / seconds / 1e6) : "" }
+        NR == FNR { gsub(",", ""); answer = $1; conflicts = $4; steps = $6; looks = $8; next }
+        /^s / { if (tolower($2) != answer) answer = answer ", CaDiCaL " $2 }
+        /^c conflicts:/ { others = $3 }
         /^c propagations:/ { propagations = $3 }
-        END { print "| " file " | " answer " | " lines " | " own " | " steps " | " rate(steps, own) " | " looks " | " conflicts " | " other " | " propagations " | " rate(propagations, other) " |" }
+        END { print "| " file " | " answer " | " conflicts " | " own " | " steps " | " rate(steps, own) " | " looks " | " others + 0 " | " other " | " propagations " | " rate(propagations, other) " |" }
     ' /tmp/own.out /tmp/other.out
 done

@@ -3,7 +3,7 @@ ghost use Rattle.lv_clauses.specs.Literals.{has, IsClauseOf};
 ghost use Rattle.lv_trail.specs.Trail.{IsTrail, IsGrown, IsReached, truths};
 ghost use Rattle.lv_trail.specs.declared.store.Reached.TheVariants.{Conflict};
 ghost use Rattle.lv_solver.specs.Learning.{AreFalse, IsSteady};
-ghost use Rattle.lv_solver.specs.Solving.{IsPick, IsChoice, IsAnswer, Values, HasLearnt};
+ghost use Rattle.lv_solver.specs.Solving.{AreKnown, IsPick, IsChoice, IsAnswer, Values, HasLearnt};
 
 use crate::analyze::{analyze, back_level, top_level};
 use crate::order::Order;
@@ -57,12 +57,13 @@ fn propagate(trail: &mut Trail, work: &mut Work) -> Reached
     reached
 }
 
-/// The first variable without a value.
-fn pick(trail: &Trail, vars: u64) -> Option<u64>
-    requires { vars ≡ trail.now.vars }
+/// The first variable without a value, where all up to `known` have values.
+fn pick(trail: &Trail, vars: u64, known: u64) -> Option<u64>
+    requires vars { vars ≡ trail.now.vars }
+    requires known { AreKnown trail.now known }
     ensures { IsPick trail.now result }
 {
-    for v in 0..vars {
+    for v in known..vars {
         if trail.value(v + 1).is_none() {
             return Some(v + 1);
         }
@@ -71,8 +72,9 @@ fn pick(trail: &Trail, vars: u64) -> Option<u64>
 }
 
 /// A literal to decide: of the first variable without a value, or as the order suggests.
-fn choose(trail: &Trail, vars: u64, order: &mut Order, rising: bool) -> Option<Lit>
-    requires { vars ≡ trail.now.vars }
+fn choose(trail: &Trail, vars: u64, order: &mut Order, rising: bool, known: u64) -> Option<Lit>
+    requires vars { vars ≡ trail.now.vars }
+    requires known { AreKnown trail.now known }
     ensures { IsChoice trail.now rising result }
 {
     if !rising {
@@ -80,7 +82,7 @@ fn choose(trail: &Trail, vars: u64, order: &mut Order, rising: bool) -> Option<L
             return Some(lit);
         }
     }
-    let Some(var) = pick(trail, vars) else {
+    let Some(var) = pick(trail, vars, known) else {
         return None;
     };
     let lit = Lit::new(var, true);
@@ -173,12 +175,19 @@ pub fn solve_counted(
     let mut log = Derivation::new(alloc);
     let mut order = Order::new(alloc, vars)?;
     let mut seen = Seen::new(alloc, vars)?;
+    let mut known = 0;
     loop {
         match propagate(&mut trail, work) {
-            Reached::Closed => match choose(&trail, vars, &mut order, log.len() >= half) {
-                None => return Ok(Answer::Model(values(alloc, &trail, vars)?)),
-                Some(lit) => trail.decide(lit),
-            },
+            Reached::Closed => {
+                let rising = log.len() >= half;
+                match choose(&trail, vars, &mut order, rising, known) {
+                    None => return Ok(Answer::Model(values(alloc, &trail, vars)?)),
+                    Some(lit) => {
+                        known = if rising { lit.var() - 1 } else { 0 };
+                        trail.decide(lit);
+                    }
+                }
+            }
             Reached::Conflict(id) => {
                 if log.len() >= budget {
                     return Ok(Answer::Budget(log));
@@ -191,14 +200,12 @@ pub fn solve_counted(
                     return Ok(Answer::Refuted(log));
                 }
                 order.reward(clause.lits());
-                let level = if log.len() == half {
-                    0
-                } else {
-                    back_level(&trail, top, clause.lits(), order.is_due())
-                };
+                let at_half = log.len() == half;
+                let level = back_level(&trail, top, clause.lits(), at_half, order.is_due());
                 order.save(&trail, level);
                 trail.back(level);
                 trail.add(clause)?;
+                known = 0;
             }
         }
     }

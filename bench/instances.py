@@ -114,6 +114,11 @@ def falls(count):
     return count, chain(count)[1] + [[-count]]
 
 
+def pairs(count):
+    """One of each two variables that follow each other is true."""
+    return count, [[k, k + 1] for k in range(1, count)]
+
+
 def main():
     folder = sys.argv[1]
     for bits in (16, 32):
@@ -128,6 +133,7 @@ def main():
     for count in (125000, 250000, 500000, 1000000):
         write(folder, f"read{count}", *read(count))
         write(folder, f"falls{count}", *falls(count))
+        write(folder, f"rising{count}", *pairs(count), budget=0)
 
 
 main()

@@ -104,6 +104,21 @@ def chain(count):
     return count, [[-k, k + 1] for k in range(1, count)] + [[1]]
 
 
+def read(count):
+    """A chain with an empty clause in front: what reading it takes."""
+    return count, [[]] + chain(count)[1]
+
+
+def falls(count):
+    """A chain whose last variable is false, so that one line rests on all its clauses."""
+    return count, chain(count)[1] + [[-count]]
+
+
+def pairs(count):
+    """One of each two variables that follow each other is true."""
+    return count, [[k, k + 1] for k in range(1, count)]
+
+
 def main():
     folder = sys.argv[1]
     for bits in (16, 32):
@@ -113,8 +128,12 @@ def main():
     for seed in range(1, 6):
         write(folder, f"random{seed}", *randoms(150, 4.3, seed))
     write(folder, "commutes5", *commutes(5))
-    for count in (10000, 100000, 1000000):
+    for count in (10000, 100000, 125000, 250000, 500000, 1000000):
         write(folder, f"chain{count}", *chain(count))
+    for count in (125000, 250000, 500000, 1000000):
+        write(folder, f"read{count}", *read(count))
+        write(folder, f"falls{count}", *falls(count))
+        write(folder, f"rising{count}", *pairs(count), budget=0)
 
 
 main()

@@ -4,7 +4,7 @@
 mod input;
 
 use input::Input;
-use lv_solver::{Answer, solve};
+use lv_solver::{Answer, Work, solve_counted};
 use std::io;
 
 fn main(rt: HostRuntime) -> io::Result<()> {
@@ -15,12 +15,18 @@ fn main(rt: HostRuntime) -> io::Result<()> {
             return Ok(());
         }
     }
-    let Ok(answer) = solve(rt.alloc(), &input.set, input.budget) else {
+    let mut work = Work::none();
+    let Ok(answer) = solve_counted(rt.alloc(), &input.set, input.budget, &mut work) else {
         println!(rt; "no memory")?;
         return Ok(());
     };
     let (word, lines) = summary(&answer);
-    println!(rt; "{word}, {lines} lines")?;
+    let Work {
+        conflicts,
+        steps,
+        looks,
+    } = work;
+    println!(rt; "{word}, {lines} lines, {conflicts} conflicts, {steps} steps, {looks} looks")?;
     Ok(())
 }
 

@@ -1,6 +1,9 @@
 pub mod Resolving
+pub mod Marking
 pub mod Walking
 pub mod Learning
+pub mod Deriving
+pub mod Asserting
 pub mod Deciding
 pub mod Running
 pub mod Logging

@@ -1,5 +1,5 @@
 -- The trail of a run, from step to step.
-use Rattle.std.proofs.Common.{◌≡◌, ℕ, suc, zero, ◌+◌, ◌-◌, ◌/◌, ◌<◌, ◌≤◌, List, [], ◌∷◌, ◌++◌, length, take, get_or, refl, sym, ◌∙◌, ap, subst, arith, ◌⊎◌, inl, inr, length-append}
+use Rattle.std.proofs.Common.{◌≡◌, ℕ, true, suc, zero, ◌+◌, ◌-◌, ◌/◌, ◌<◌, ◌≤◌, List, [], ◌∷◌, ◌++◌, length, take, get_or, refl, sym, ◌∙◌, ap, subst, arith, ◌⊎◌, inl, inr, length-append}
 use Rattle.std.proofs.lemmas.Bool.{cases_lt, true≢false}
 use Rattle.std.proofs.lemmas.List.{take-append-le}
 use Rattle.lv_clauses.specs.Literals.{Lit, negated, has}
@@ -9,7 +9,8 @@ use Rattle.lv_clauses.proofs.Literals.{same_lit, either}
 use Rattle.lv_clauses.proofs.Sets.{get-older}
 use Rattle.lv_trail.specs.declared.store.Entry.{Entry}
 use Rattle.lv_trail.specs.Trail.{TrailValue, no_entry, entry, truths, IsTrail, IsGrown, AllForced, IsClosed, IsFree}
-use Rattle.lv_solver.specs.Solving.{HasValue, IsRun, clause_list}
+use Rattle.lv_trail.proofs.Placing.{has-truths, truths-has}
+use Rattle.lv_solver.specs.Solving.{HasValue, AreKnown, IsRun, clause_list}
 use Rattle.lv_solver.proofs.Learning.{consistent}
 use Rattle.lv_solver.proofs.Deciding.{decided-complete}
 
@@ -150,6 +151,17 @@ run-decided set budget t u log x run closed free first su is_u =
                 ]
           ];
     }
+
+-- what has a value keeps it where entries are added
+pub known-more : (t u : TrailValue) (es : List Entry) → u.entries ≡ t.entries ++ es → (n : ℕ) → AreKnown t n → AreKnown u n
+known-more t u es e n h v one most =
+    let (l, is, i) = h v one most in
+    let (k, b, f) = has-truths t.entries l i in
+    let below : k < length u.entries = omega (arith, len-more t u es e) in
+    (l, is, subst (λ z. has (truths u.entries) z ≡ true) (ap (λ y. y.lit) (entry-old t u es e k b) ∙ f) (truths-has u.entries k below))
+
+pub known-grown : (t u : TrailValue) → IsGrown t u → (n : ℕ) → AreKnown t n → AreKnown u n
+known-grown t u g n h = let (es, e, f) = g.forced in known-more t u es e n h
 
 pub grown-length : (t u : TrailValue) → IsGrown t u → length t.entries ≤ length u.entries
 grown-length t u g = let (es, e, f) = g.forced in omega (arith, len-more t u es e)

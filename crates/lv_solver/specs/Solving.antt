@@ -25,6 +25,10 @@ IsAnswer set budget (Budget lines) = IsSpent budget set lines × ((d : ℕ) → 
 abbrev pub HasValue : TrailValue → ℕ → Type 0
 HasValue t v = (l : Lit) × (l.var ≡ v) × IsTrue (has (truths t.entries) l)
 
+-- the variables up to this one have values
+abbrev pub AreKnown : TrailValue → ℕ → Type 0
+AreKnown t n = (v : ℕ) → 1 ≤ v → v ≤ n → HasValue t v
+
 -- the first variable without a value
 abbrev pub IsPick : TrailValue → Option ℕ → Type 0
 IsPick t None = (v : ℕ) → 1 ≤ v → v ≤ t.vars → HasValue t v

@@ -3,10 +3,12 @@
 
 mod analyze;
 mod heap;
+mod minimize;
 mod order;
 mod resolve;
+mod seen;
 mod solve_set;
 #[cfg(test)]
 mod tests;
 
-pub use solve_set::{Answer, solve};
+pub use solve_set::{Answer, Work, solve, solve_counted};

@@ -1,12 +1,13 @@
-ghost use Rattle.std.specs.Prelude.{◌≡◌, ℕ, ◌≤◌, IfOk, false};
+ghost use Rattle.std.specs.Prelude.{◌≡◌, ℕ, ◌≤◌, length, IfOk, OnOk, false};
 ghost use Rattle.lv_clauses.specs.Literals.{has, IsClauseOf};
-ghost use Rattle.lv_trail.specs.Trail.{IsTrail, IsReached, truths};
+ghost use Rattle.lv_trail.specs.Trail.{IsTrail, IsGrown, IsReached, truths};
 ghost use Rattle.lv_trail.specs.declared.store.Reached.TheVariants.{Conflict};
 ghost use Rattle.lv_solver.specs.Learning.{AreFalse, IsSteady};
-ghost use Rattle.lv_solver.specs.Solving.{IsPick, IsChoice, IsAnswer, Values, HasLearnt};
+ghost use Rattle.lv_solver.specs.Solving.{AreKnown, IsPick, IsChoice, IsAnswer, Values, HasLearnt};
 
 use crate::analyze::{analyze, back_level, top_level};
 use crate::order::Order;
+use crate::seen::Seen;
 use lv_bits::NoMemory;
 use lv_clauses::{Assignment, Clause, ClauseSet, Derivation, Line, Lit};
 use lv_trail::{Reached, Trail};
@@ -20,12 +21,49 @@ pub enum Answer {
     Budget(Derivation),
 }
 
-/// The first variable without a value.
-fn pick(trail: &Trail, vars: u64) -> Option<u64>
-    requires { vars ≡ trail.now.vars }
+/// How many conflicts there were, how many literals became true by unit steps, and how many clauses were looked at for them.
+/// Nothing is claimed of it.
+#[derive(Clone, Copy)]
+pub struct Work {
+    pub conflicts: u64,
+    pub steps: u64,
+    pub looks: u64,
+}
+
+impl Work {
+    pub fn none() -> Work {
+        Work {
+            conflicts: 0,
+            steps: 0,
+            looks: 0,
+        }
+    }
+}
+
+/// Unit steps, which are counted.
+fn propagate(trail: &mut Trail, work: &mut Work) -> Reached
+    ensures valid { IsTrail trail.new }
+    ensures grown { IsGrown trail.old trail.new }
+    ensures reached { IsReached trail.new result }
+{
+    let before = trail.len();
+    let reached = trail.propagate();
+    let steps = trail.len().saturating_sub(before);
+    work.steps = work.steps.saturating_add(steps);
+    work.looks = trail.looked();
+    if let Reached::Conflict(_) = &reached {
+        work.conflicts = work.conflicts.saturating_add(1);
+    }
+    reached
+}
+
+/// The first variable without a value, where all up to `known` have values.
+fn pick(trail: &Trail, vars: u64, known: u64) -> Option<u64>
+    requires vars { vars ≡ trail.now.vars }
+    requires known { AreKnown trail.now known }
     ensures { IsPick trail.now result }
 {
-    for v in 0..vars {
+    for v in known..vars {
         if trail.value(v + 1).is_none() {
             return Some(v + 1);
         }
@@ -34,8 +72,9 @@ fn pick(trail: &Trail, vars: u64) -> Option<u64>
 }
 
 /// A literal to decide: of the first variable without a value, or as the order suggests.
-fn choose(trail: &Trail, vars: u64, order: &mut Order, rising: bool) -> Option<Lit>
-    requires { vars ≡ trail.now.vars }
+fn choose(trail: &Trail, vars: u64, order: &mut Order, rising: bool, known: u64) -> Option<Lit>
+    requires vars { vars ≡ trail.now.vars }
+    requires known { AreKnown trail.now known }
     ensures { IsChoice trail.now rising result }
 {
     if !rising {
@@ -43,7 +82,7 @@ fn choose(trail: &Trail, vars: u64, order: &mut Order, rising: bool) -> Option<L
             return Some(lit);
         }
     }
-    let Some(var) = pick(trail, vars) else {
+    let Some(var) = pick(trail, vars, known) else {
         return None;
     };
     let lit = Lit::new(var, true);
@@ -90,6 +129,7 @@ fn clause_of(alloc: Global, trail: &Trail, lits: &[Lit]) -> Result<Clause, NoMem
 fn learn(
     alloc: Global,
     trail: &Trail,
+    seen: &mut Seen,
     log: &mut Derivation,
     top: u64,
     id: u64,
@@ -99,9 +139,11 @@ fn learn(
     requires steady { IsSteady trail.now }
     requires top { top ≡ trail.now.level }
     requires conflict { IsReached trail.now (Conflict id) }
-    ensures { IfOk result (λ c. HasLearnt trail.now all log.old log.new c) }
+    requires sized { length seen.old.turns ≡ trail.now.vars }
+    ensures learnt { IfOk result (λ c. HasLearnt trail.now all log.old log.new c) }
+    ensures sized { OnOk result (length seen.new.turns ≡ trail.now.vars) }
 {
-    let learnt = analyze(alloc, trail, top, id, all)?;
+    let learnt = analyze(alloc, trail, seen, top, id, all)?;
     let clause = clause_of(alloc, trail, &learnt.lits)?;
     let copy = clause.copy(alloc)?;
     log.push(Line::new(clause, learnt.hints))?;
@@ -114,17 +156,38 @@ fn learn(
 pub fn solve(alloc: Global, set: &ClauseSet, budget: u64) -> Result<Answer, NoMemory>
     ensures { IfOk result (IsAnswer set.now budget) }
 {
+    let mut work = Work::none();
+    solve_counted(alloc, set, budget, &mut work)
+}
+
+/// As `solve`, with the work counted.
+pub fn solve_counted(
+    alloc: Global,
+    set: &ClauseSet,
+    budget: u64,
+    work: &mut Work,
+) -> Result<Answer, NoMemory>
+    ensures { IfOk result (IsAnswer set.now budget) }
+{
     let vars = set.vars();
     let half = budget / 2;
     let mut trail = Trail::new(alloc, set)?;
     let mut log = Derivation::new(alloc);
     let mut order = Order::new(alloc, vars)?;
+    let mut seen = Seen::new(alloc, vars)?;
+    let mut known = 0;
     loop {
-        match trail.propagate() {
-            Reached::Closed => match choose(&trail, vars, &mut order, log.len() >= half) {
-                None => return Ok(Answer::Model(values(alloc, &trail, vars)?)),
-                Some(lit) => trail.decide(lit),
-            },
+        match propagate(&mut trail, work) {
+            Reached::Closed => {
+                let rising = log.len() >= half;
+                match choose(&trail, vars, &mut order, rising, known) {
+                    None => return Ok(Answer::Model(values(alloc, &trail, vars)?)),
+                    Some(lit) => {
+                        known = if rising { lit.var() - 1 } else { 0 };
+                        trail.decide(lit);
+                    }
+                }
+            }
             Reached::Conflict(id) => {
                 if log.len() >= budget {
                     return Ok(Answer::Budget(log));
@@ -132,19 +195,17 @@ pub fn solve(alloc: Global, set: &ClauseSet, budget: u64) -> Result<Answer, NoMe
                 let top = top_level(&trail);
                 let root = top == 0;
                 let all = root || log.len() >= half;
-                let clause = learn(alloc, &trail, &mut log, top, id, all)?;
+                let clause = learn(alloc, &trail, &mut seen, &mut log, top, id, all)?;
                 if root {
                     return Ok(Answer::Refuted(log));
                 }
                 order.reward(clause.lits());
-                let level = if log.len() == half {
-                    0
-                } else {
-                    back_level(&trail, top, clause.lits(), order.is_due())
-                };
+                let at_half = log.len() == half;
+                let level = back_level(&trail, top, clause.lits(), at_half, order.is_due());
                 order.save(&trail, level);
                 trail.back(level);
                 trail.add(clause)?;
+                known = 0;
             }
         }
     }

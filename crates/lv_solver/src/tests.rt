@@ -209,3 +209,19 @@ fn refutes_a_sum_within_its_budget(rt: HostRuntime) -> Result<(), Fail> {
     }
     Ok(())
 }
+
+#[test]
+fn leaves_out_what_follows(rt: HostRuntime) -> Result<(), Fail> {
+    // From -1 follows 2, and with -7 then 5, 4 and -4: -5, 1 and -2 can't all be false, and -2 follows from 1 by the first clause.
+    let dimacs: &[i64] = &[
+        1, 2, 0, 1, 5, 7, 0, -5, -2, 4, 0, -5, 1, -4, 0, 3, 6, 0, 3, -6, 0, -3, 6, 0, -3, -6, 0,
+    ];
+    let Ok((kind, _, width)) = answer_on(rt.alloc(), 7, dimacs, 9) else {
+        return Err(Fail::from("no memory"));
+    };
+    assert!(rt;
+        (kind, width) == (Kind::Refuted, 2),
+        "{kind:?}, {width} literals"
+    );
+    Ok(())
+}

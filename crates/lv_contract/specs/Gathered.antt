@@ -5,6 +5,7 @@ use Rattle.lv_contract.specs.declared.key.Key.TheVariants as k
 use Rattle.lv_contract.specs.declared.gather.Names.{Names}
 use Rattle.lv_contract.specs.declared.gather.Observed.{Observed}
 use Rattle.lv_contract.specs.declared.gather.Inside.{Inside}
+use Rattle.lv_contract.specs.declared.gather.Parts.{Parts}
 use Rattle.lv_contract.specs.Values.{text_at, string_at, texts_at, members_at, table_at}
 use Rattle.lv_contract.specs.Named.{texts, port_texts}
 use Rattle.lv_contract.specs.Says.{ports_at, SaysTable}
@@ -25,3 +26,8 @@ pub record SaysInside (ms : Members) (i : Inside) : Type 0 where
   pub initial : SaysInitial (members_at k.Initial ms) i.initial
   pub candidates : SaysCandidates (members_at k.Candidates ms) i.candidates
   pub sim : SaysTable (table_at k.Simulation ms) i.sim
+
+pub record SaysParts (format : ℕ) (ms : Members) (p : Parts) : Type 0 where
+  pub names : SaysNames ms p.names
+  pub observed : SaysObserved format ms p.observed
+  pub inside : SaysInside ms p.inside

@@ -1,21 +1,24 @@
 //! What a contract file says beside numbers and names, once its keys are checked.
 
-ghost use Rattle.std.specs.Prelude.{◌≡◌, Some, IfOk, MatchResult};
+ghost use Rattle.std.specs.Prelude.{◌≡◌, Some, true, IfOk, IfErr, MatchResult};
 ghost use Rattle.toml.specs.View.{table_view};
 ghost use Rattle.lv_contract.specs.declared.need.Need.{Need};
 ghost use Rattle.lv_contract.specs.Shapes.{TopFits};
 ghost use Rattle.lv_contract.specs.Parts.{format_of};
 ghost use Rattle.lv_contract.specs.Refusals.{IsFault};
-ghost use Rattle.lv_contract.specs.Gathered.{SaysNames, SaysObserved, SaysInside};
+ghost use Rattle.lv_contract.specs.Values.{number_at};
+ghost use Rattle.lv_contract.specs.Ranges.{in_range};
+ghost use Rattle.lv_contract.specs.Says.{Says};
+ghost use Rattle.lv_contract.specs.Gathered.{SaysNames, SaysObserved, SaysInside, SaysParts};
 ghost use Rattle.lv_contract.specs.Shapes as spec;
 
-use crate::contract::SimTable;
+use crate::contract::{Contract, SimTable};
 use crate::error::ContractError;
 use crate::key::{Key, Level};
 use crate::lists::expressions;
 use crate::named::{Named, PortText};
 use crate::tables::{CandidateLists, InitialLists, candidates, initial, ports, simulation};
-use crate::values::{text, text_or_none, texts};
+use crate::values::{number, text, text_or_none, texts};
 use lv_bits::{NoMemory, Text};
 use sqlite_items::Items;
 use std::alloc::Global;
@@ -46,7 +49,15 @@ pub(crate) struct Names {
     pub(crate) certificate: Option<Text>,
 }
 
-pub(crate) fn read_names(alloc: Global, table: &Table) -> Result<Names, NoMemory>
+/// All that stands there beside numbers.
+#[derive(Debug, Drop)]
+pub(crate) struct Parts {
+    pub(crate) names: Names,
+    pub(crate) observed: Observed,
+    pub(crate) inside: Inside,
+}
+
+fn read_names(alloc: Global, table: &Table) -> Result<Names, NoMemory>
     ensures { IfOk result (SaysNames (table_view table.now)) }
 {
     let files = texts(alloc, table, Key::Files)?;
@@ -74,7 +85,7 @@ pub(crate) fn top_level(format: u64) -> Level
     }
 }
 
-pub(crate) fn read_observed(
+fn read_observed(
     alloc: Global,
     format: u64,
     table: &Table,
@@ -102,7 +113,7 @@ pub(crate) fn read_observed(
     }
 }
 
-pub(crate) fn read_inside(
+fn read_inside(
     alloc: Global,
     format: u64,
     table: &Table,
@@ -125,6 +136,94 @@ pub(crate) fn read_inside(
             candidates,
             sim,
         }),
+        Err(error) => Err(error),
+    }
+}
+
+fn read_parts(alloc: Global, format: u64, table: &Table) -> Result<Parts, ContractError>
+    requires format { format_of (table_view table.now) ≡ Some format }
+    requires fit { TopFits format (table_view table.now) }
+    ensures { MatchResult result (SaysParts format (table_view table.now)) (λ e. (need : Need) → IsFault need (table_view table.now) e) }
+{
+    let names = match read_names(alloc, table) {
+        Ok(names) => names,
+        Err(_) => return Err(ContractError::NoMemory),
+    };
+    let observed = match read_observed(alloc, format, table) {
+        Ok(observed) => observed,
+        Err(error) => return Err(error),
+    };
+    match read_inside(alloc, format, table) {
+        Ok(inside) => Ok(Parts {
+            names,
+            observed,
+            inside,
+        }),
+        Err(error) => Err(error),
+    }
+}
+
+fn lookahead_of(table: &Table) -> u32
+    requires { in_range Key.Lookahead (number_at 0 Key.Lookahead (table_view table.now)) ≡ true }
+    ensures { result ≡ number_at 0 Key.Lookahead (table_view table.now) }
+{
+    let lookahead = number(table, Key::Lookahead, 0);
+    lookahead as u32
+}
+
+fn joined(format: u64, table: &Table, parts: Parts) -> Contract
+    requires format { format_of (table_view table.now) ≡ Some format }
+    requires fit { TopFits format (table_view table.now) }
+    requires parts { SaysParts format (table_view table.now) parts }
+    ensures format { result.format ≡ format }
+    ensures says { Says (table_view table.now) result }
+{
+    let Parts {
+        names,
+        observed,
+        inside,
+    } = parts;
+    let Inside {
+        initial,
+        candidates,
+        sim,
+    } = inside;
+    Contract {
+        format,
+        files: names.files,
+        top: names.top,
+        clock: names.clock,
+        lookahead: lookahead_of(table),
+        budget: number(table, Key::Budget, 200_000),
+        certificate: names.certificate,
+        cycles: number(table, Key::Cycles, 16),
+        ports: observed.ports,
+        attacker: observed.attacker,
+        assume: observed.assume,
+        initial_equal: initial.equal,
+        initial_each: initial.each,
+        registers: candidates.registers,
+        equal: candidates.equal,
+        guarded: candidates.guarded,
+        each: candidates.each,
+        aligned: candidates.aligned,
+        sim,
+    }
+}
+
+pub(crate) fn contract_of(
+    alloc: Global,
+    format: u64,
+    table: &Table,
+) -> Result<Contract, ContractError>
+    requires format { format_of (table_view table.now) ≡ Some format }
+    requires fit { TopFits format (table_view table.now) }
+    ensures format { IfOk result (λ c. c.format ≡ format) }
+    ensures says { IfOk result (Says (table_view table.now)) }
+    ensures refused { IfErr result (λ e. (need : Need) → IsFault need (table_view table.now) e) }
+{
+    match read_parts(alloc, format, table) {
+        Ok(parts) => Ok(joined(format, table, parts)),
         Err(error) => Err(error),
     }
 }

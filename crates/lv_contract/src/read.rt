@@ -2,23 +2,21 @@ ghost use Rattle.std.specs.Prelude.{◌≡◌, ◌==◌, ℕ, Some, true, map, I
 ghost use Rattle.std.specs.List.{list_all};
 ghost use Rattle.toml.specs.Data.{Members, as_table};
 ghost use Rattle.toml.specs.View.{view, items_view, table_view};
-ghost use Rattle.lv_contract.specs.Values.{number_at, table_at, members_of, tables_in, keeps};
-ghost use Rattle.lv_contract.specs.Ranges.{are_same, in_range};
+ghost use Rattle.lv_contract.specs.Values.{table_at, members_of, tables_in, keeps};
+ghost use Rattle.lv_contract.specs.Ranges.{are_same};
 ghost use Rattle.lv_contract.specs.Shapes as spec;
-ghost use Rattle.lv_contract.specs.Shapes.{TopFits};
 ghost use Rattle.lv_contract.specs.Parts.{format_of, port_in};
-ghost use Rattle.lv_contract.specs.Says.{Says, IsContractIn, IsContractFile};
+ghost use Rattle.lv_contract.specs.Says.{IsContractIn, IsContractFile};
 ghost use Rattle.lv_contract.specs.Checks.{HasPartFaultInside, HasFaultAsPort, HasPortPartFault, IsPortsRefusal, PortsKeep, Keeps};
 ghost use Rattle.lv_contract.specs.Refusals.{IsFault, IsRefusal};
 
 use crate::check::{check_table, check_value, told_key};
 use crate::contract::Contract;
 use crate::error::ContractError;
-use crate::gather::{Inside, Names, Observed, read_inside, read_names, read_observed, top_level};
+use crate::gather::{contract_of, top_level};
 use crate::key::{Key, Level};
 use crate::lists::behind_first;
 use crate::need::Need;
-use crate::tables::{CandidateLists, InitialLists};
 use crate::values::{array, find_table, number};
 use std::alloc::Global;
 use toml::{Table, Value};
@@ -149,85 +147,6 @@ fn check_all(alloc: Global, need: Need, format: u64, table: &Table) -> Result<()
         Ok(()) => Ok(()),
         Err(error) => Err(error),
     }
-}
-
-fn lookahead_of(table: &Table) -> u32
-    requires { in_range Key.Lookahead (number_at 0 Key.Lookahead (table_view table.now)) ≡ true }
-    ensures { result ≡ number_at 0 Key.Lookahead (table_view table.now) }
-{
-    let lookahead = number(table, Key::Lookahead, 0);
-    lookahead as u32
-}
-
-fn contract_of(alloc: Global, format: u64, table: &Table) -> Result<Contract, ContractError>
-    requires format { format_of (table_view table.now) ≡ Some format }
-    requires fit { TopFits format (table_view table.now) }
-    ensures ok { IfOk result (λ c. (c.format ≡ format) × Says (table_view table.now) c) }
-    ensures err { IfErr result (λ e. (need : Need) → IsFault need (table_view table.now) e) }
-{
-    let names = match read_names(alloc, table) {
-        Ok(names) => names,
-        Err(_) => return Err(ContractError::NoMemory),
-    };
-    let observed = match read_observed(alloc, format, table) {
-        Ok(observed) => observed,
-        Err(error) => return Err(error),
-    };
-    let inside = match read_inside(alloc, format, table) {
-        Ok(inside) => inside,
-        Err(error) => return Err(error),
-    };
-    let Names {
-        files,
-        top,
-        clock,
-        certificate,
-    } = names;
-    let Observed {
-        ports,
-        attacker,
-        assume,
-    } = observed;
-    let Inside {
-        initial,
-        candidates,
-        sim,
-    } = inside;
-    let InitialLists {
-        equal: initial_equal,
-        each: initial_each,
-    } = initial;
-    let CandidateLists {
-        registers,
-        equal,
-        guarded,
-        each,
-        aligned,
-    } = candidates;
-    let lookahead = lookahead_of(table);
-    let budget = number(table, Key::Budget, 200_000);
-    let cycles = number(table, Key::Cycles, 16);
-    Ok(Contract {
-        format,
-        files,
-        top,
-        clock,
-        lookahead,
-        budget,
-        certificate,
-        cycles,
-        ports,
-        attacker,
-        assume,
-        initial_equal,
-        initial_each,
-        registers,
-        equal,
-        guarded,
-        each,
-        aligned,
-        sim,
-    })
 }
 
 fn read_table(alloc: Global, table: &Table, need: Need) -> Result<Contract, ContractError>

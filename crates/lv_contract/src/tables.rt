@@ -169,7 +169,10 @@ fn all_ports(alloc: Global, values: &[Value]) -> Result<Items<PortText>, Contrac
                 Ok(read) => read,
                 Err(error) => return Err(error),
             };
-            ports.push(read)?;
+            match ports.push(read) {
+                Ok(()) => {}
+                Err(_) => return Err(ContractError::NoMemory),
+            }
         }
     }
     Ok(ports)

@@ -19,12 +19,12 @@ pub returns-in-Ok-contract_of : goal.returns-in-Ok-contract_of
 returns-in-Ok-contract_of c =
     let ms = table_view c.args.table.now in
     let format = format_read c.args.need ms c.in-Ok.ensures ∙ ap Some (sym c.number-format.ensures) in
-    let h = c.in-Ok-contract_of.ensures.ok in
+    let h = c.in-Ok-contract_of.ensures in
     record {
-      format = format ∙ ap Some (sym h.0);
+      format = format ∙ ap Some (sym h.format);
       keeps = parts_keep c.args.need c.number-format.result ms format c.in-Ok-check_all.ensures;
-      says = h.1;
+      says = h.says;
     }
 
 pub returns-in-Err-contract_of : goal.returns-in-Err-contract_of
-returns-in-Err-contract_of c = c.in-Err-contract_of.ensures.err c.args.need
+returns-in-Err-contract_of c = c.in-Err-contract_of.ensures.refused c.args.need

@@ -2,7 +2,7 @@ use Rattle.std.proofs.Common.{◌≡◌, ◌≤◌, true, sym, subst, arith}
 use Rattle.lv_contract.specs.declared.key.Key.TheVariants as k
 use Rattle.lv_contract.specs.Ranges.{in_range}
 use Rattle.lv_contract.proofs.Counts.{few_lookahead}
-use Rattle.lv_contract.proofs.read.lookahead_of.Goals as goal
+use Rattle.lv_contract.proofs.gather.lookahead_of.Goals as goal
 
 pub overflow_cast-result : goal.overflow_cast-result
 overflow_cast-result c =

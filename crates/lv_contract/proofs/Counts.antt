@@ -48,16 +48,16 @@ pub ports_counted : (format : ℕ) (ms : Members) (ports : List PortText) → ma
 ports_counted format ms ports e fit =
     subst (λ n. is_port_count format n ≡ true) (sym (sym (length-map ports port_texts) ∙ (ap length e ∙ length-map (port_tables format ms) port_at))) fit.count
 
-counts-ports : (ps : List PortText) → contract_counts ps ≡ map (λ (q : PortTexts). length q.contract) (map port_texts ps)
-counts-ports [] = refl
-counts-ports (p ∷ ps) = let n : length p.contract ≡ length (texts p.contract) = sym (length-map p.contract (λ (x : Named). x.text)) in let rest = counts-ports ps in λ j. n j ∷ rest j
+pub counts_ports : (ps : List PortText) → contract_counts ps ≡ map (λ (q : PortTexts). length q.contract) (map port_texts ps)
+counts_ports [] = refl
+counts_ports (p ∷ ps) = let n : length p.contract ≡ length (texts p.contract) = sym (length-map p.contract (λ (x : Named). x.text)) in let rest = counts_ports ps in λ j. n j ∷ rest j
 
-counts-tables : (ts : List Members) → map (λ (q : PortTexts). length q.contract) (map port_at ts) ≡ map contract_count ts
-counts-tables [] = refl
-counts-tables (t ∷ ts) = ap (λ ns. contract_count t ∷ ns) (counts-tables ts)
+pub counts_tables : (ts : List Members) → map (λ (q : PortTexts). length q.contract) (map port_at ts) ≡ map contract_count ts
+counts_tables [] = refl
+counts_tables (t ∷ ts) = ap (λ ns. contract_count t ∷ ns) (counts_tables ts)
 
 pub counts_are : (format : ℕ) (ms : Members) (ports : List PortText) → map port_texts ports ≡ ports_at format ms → contract_counts ports ≡ map contract_count (port_tables format ms)
-counts_are format ms ports e = counts-ports ports ∙ (ap (map (λ (q : PortTexts). length q.contract)) e ∙ counts-tables (port_tables format ms))
+counts_are format ms ports e = counts_ports ports ∙ (ap (map (λ (q : PortTexts). length q.contract)) e ∙ counts_tables (port_tables format ms))
 
 pub ports_same : (format : ℕ) (ms : Members) (ports : List PortText) → map port_texts ports ≡ ports_at format ms → PortsFit format ms → are_same (contract_counts ports) ≡ true
 ports_same format ms ports e fit = ap are_same (counts_are format ms ports e) ∙ fit.same

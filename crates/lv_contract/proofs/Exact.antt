@@ -35,7 +35,7 @@ use Rattle.lv_contract.specs.Parts.{port_in, in_format, format_of, part_in, part
 use Rattle.lv_contract.specs.Says.{port_at, ports_at, Says, SaysSimulation, SaysTable, IsDocument, IsContractIn, IsContractFile}
 use Rattle.lv_contract.specs.Refusals.{IsFault, IsFaultOf, IsFaultInPart, HasUnequalPorts, IsRefusal}
 use Rattle.lv_contract.proofs.Kept.{part_is, one_or_two}
-use Rattle.lv_contract.proofs.Counts.{counts_are}
+use Rattle.lv_contract.proofs.Counts.{counts_ports, counts_tables}
 use Rattle.lv_contract.proofs.Elements.{passes_at}
 
 -- ---- texts that are expressions
@@ -340,7 +340,7 @@ no-unequal : (need : Need) (ms : Members) (c : Contract) (e : ContractError) →
 no-unequal need ms c e h f =
     let two : c.format ≡ 2 = some-is c.format 2 (sym h.format ∙ f.format) in
     let counts : contract_counts c.ports ≡ map contract_count (tables_in (items_at k.Port ms)) =
-    counts-ports c.ports ∙ ap (map (λ (q : PortTexts). length q.contract)) (h.says.ports ∙ ap (λ g. ports_at g ms) two) ∙ counts-tables (tables_in (items_at k.Port ms)) in
+    counts_ports c.ports ∙ ap (map (λ (q : PortTexts). length q.contract)) (h.says.ports ∙ ap (λ g. ports_at g ms) two) ∙ counts_tables (tables_in (items_at k.Port ms)) in
     false≢true (sym f.counts ∙ (ap are_same (sym counts) ∙ c.port_shape))
 
 no-fault : (need : Need) (ms : Members) (c : Contract) (e : ContractError) → IsContractIn need ms c → IsFault need ms e → e ≡ error.NoMemory

@@ -65,6 +65,7 @@ ok|registers = true@equal = ["g"]@when = [["h", "i"]]@each = ["j"]@aligned = tru
 ok|when = [["h", "i"]]|when = []
 ok|state = [["q", "1'b0"]]@input = [["x", "1'b1", "1'b0"]]@|
 ok|cycles = 7|cycles = 10000
+ok|cycles = 7|cycles = 1
 ok|input = [["x", "1'b1", "1'b0"]]|input = [["x"]]
 toml|format = 1|format =
 toml|format = 1|format = 1@format = 1
@@ -100,6 +101,7 @@ value budget|lookahead = 0|lookahead = 0@budget = 2000001
 value budget|lookahead = 0|lookahead = 0@budget = -1
 value budget|lookahead = 0|lookahead = 0@budget = "1"
 value cycles|lookahead = 0|lookahead = 0@cycles = 65
+value cycles|lookahead = 0|lookahead = 0@cycles = -1
 value cycles|lookahead = 0|lookahead = 0@cycles = []
 value certificate|lookahead = 0|lookahead = 0@certificate = ""
 value certificate|lookahead = 0|lookahead = 0@certificate = 1
@@ -113,6 +115,7 @@ key attacker|attacker = ["a"]@|
 value attacker|attacker = ["a"]|attacker = []
 value attacker|attacker = ["a"]|attacker = "a"
 value assume|lookahead = 0|lookahead = 0@assume = [true]
+value assume|lookahead = 0|lookahead = 0@assume = "x"
 value initial|[initial]@equal = ["e"]@each = ["f"]@|initial = 1@
 key initial.colour|equal = ["e"]|equal = ["e"]@colour = 1
 value initial.equal|equal = ["e"]|equal = "e"
@@ -131,9 +134,11 @@ key sim.colour|cycles = 7|cycles = 7@colour = 1
 key sim.cycles|cycles = 7@|
 value sim.cycles|cycles = 7|cycles = 0
 value sim.cycles|cycles = 7|cycles = 10001
+value sim.cycles|cycles = 7|cycles = "7"
 key sim.show|show = ["s"]@|
 value sim.show|show = ["s"]|show = "s"
 value sim.state|state = [["q", "1'b0"]]|state = [["q"]]
+value sim.state|state = [["q", "1'b0"]]|state = 1
 value sim.input|input = [["x", "1'b1", "1'b0"]]|input = [[]]
 value sim.input|input = [["x", "1'b1", "1'b0"]]|input = ["x"]
 expr retire 0 0|retire = "r"|retire = ""
@@ -160,7 +165,8 @@ fn second_rows() -> &'static str {
 ok|contract = ["k"]@[[port]]@retire = "!m"@contract = ["l"]@|
 value port|contract = ["l"]|contract = []
 value port|contract = ["l"]|contract = ["l", "l"]
-value port|retire = "m"|retire = "m"@[[port]]@retire = "m"@[[port]]@retire = "m"@[[port]]@retire = "m"
+ok|[[port]]@retire = "m"|[[port]]@retire = "n"@contract = ["k"]@[[port]]@retire = "n"@contract = ["k"]@[[port]]@retire = "m"
+value port|[[port]]@retire = "m"|[[port]]@retire = "n"@contract = ["k"]@[[port]]@retire = "n"@contract = ["k"]@[[port]]@retire = "n"@contract = ["k"]@[[port]]@retire = "m"
 key port|[[port]]@retire = "m"@contract = ["k"]@[[port]]@retire = "!m"@contract = ["l"]@|
 value port|[[port]]@retire = "m"@contract = ["k"]@[[port]]@retire = "!m"@contract = ["l"]@|port = []@
 value port|[[port]]@retire = "m"@contract = ["k"]@[[port]]@retire = "!m"@contract = ["l"]@|port = [1]@
@@ -229,25 +235,27 @@ fn answers_each_edit(rt: HostRuntime) -> Result<(), Fail> {
 #[test]
 fn counts_entries(rt: HostRuntime) -> Result<(), Fail> {
     let alloc = rt.alloc();
-    for (old, entry, count, wanted) in [
-        ("\"t.v\"", "\"t\",", 64, "ok"),
-        ("\"t.v\"", "\"t\",", 65, "value files"),
-        ("\"c\", \"d\"", "\"c\",", 1024, "ok"),
-        ("\"c\", \"d\"", "\"c\",", 1025, "value contract"),
-        ("[\"h\", \"i\"]", "[\"h\",\"i\"],", 1024, "ok"),
-        (
-            "[\"h\", \"i\"]",
-            "[\"h\",\"i\"],",
-            1025,
-            "value candidates.when",
-        ),
-        ("\"1'b1\", \"1'b0\"", "\"0\",", 10_000, "ok"),
-        ("\"1'b1\", \"1'b0\"", "\"0\",", 10_001, "value sim.input"),
+    for (old, entry, most, past, key) in [
+        ("\"t.v\"", "\"t\",", 64, 65, "files"),
+        ("\"c\", \"d\"", "\"c\",", 1024, 1025, "contract"),
+        ("\"a\"", "\"a\",", 1024, 1025, "attacker"),
+        ("\"e\"", "\"e\",", 1024, 1025, "initial.equal"),
+        ("\"f\"", "\"f\",", 1024, 1025, "initial.each"),
+        ("\"g\"", "\"g\",", 1024, 1025, "candidates.equal"),
+        ("[\"h\", \"i\"]", "[\"h\",\"i\"],", 1024, 1025, "candidates.when"),
+        ("\"j\"", "\"j\",", 1024, 1025, "candidates.each"),
+        ("\"s\"", "\"s\",", 1024, 1025, "sim.show"),
+        ("[\"q\", \"1'b0\"]", "[\"q\",\"0\"],", 1024, 1025, "sim.state"),
+        ("[\"x\", \"1'b1\", \"1'b0\"]", "[\"x\"],", 1024, 1025, "sim.input"),
+        ("\"1'b1\", \"1'b0\"", "\"0\",", 10_000, 10_001, "sim.input"),
     ] {
-        let entries = entry.repeat(alloc, count)?;
-        let text = first().replace(alloc, old, entries.as_str())?;
-        let given = answer(alloc, text.as_str(), Need::Nothing)?;
-        assert!(rt; given.as_str() == wanted, "{wanted}");
+        let refusal = format!(in alloc; "value {key}")?;
+        for (count, wanted) in [(most, "ok"), (past, refusal.as_str())] {
+            let entries = entry.repeat(alloc, count)?;
+            let text = first().replace(alloc, old, entries.as_str())?;
+            let given = answer(alloc, text.as_str(), Need::Nothing)?;
+            assert!(rt; given.as_str() == wanted, "{wanted}");
+        }
     }
     Ok(())
 }
@@ -255,13 +263,12 @@ fn counts_entries(rt: HostRuntime) -> Result<(), Fail> {
 #[test]
 fn measures_expressions(rt: HostRuntime) -> Result<(), Fail> {
     let alloc = rt.alloc();
-    for (count, low) in [(199, true), (200, false)] {
+    for (count, wanted) in [(199, "ok"), (200, "expr retire 0 199")] {
         let signs = "~".repeat(alloc, count)?;
         let quoted = format!(in alloc; "retire = \"{signs}a\"")?;
         let text = first().replace(alloc, "retire = \"r\"", quoted.as_str())?;
         let given = answer(alloc, text.as_str(), Need::Nothing)?;
-        assert!(rt; given.as_str().starts_with("expr retire 0 ") != low);
-        assert!(rt; (given.as_str() == "ok") == low);
+        assert!(rt; given.as_str() == wanted, "{wanted}");
     }
     Ok(())
 }

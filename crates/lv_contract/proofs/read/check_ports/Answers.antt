@@ -21,7 +21,7 @@ returns-then-even c = record {
   same = ap (λ ds. are_same (map contract_count (tables_in ds))) (sym c.array-values.ensures) ∙ (sym c.have_one_count-even.ensures ∙ c.if-even.true);
 }
 
-pub returns-else-even : goal.returns-else-even
-returns-else-even c =
+pub returns : goal.returns
+returns c =
     unequal c.args.need (table_view c.args.table.now) c.refuse_ports.result c.requires
     (ap (λ ds. are_same (map contract_count (tables_in ds))) (sym c.array-values.ensures) ∙ (sym c.have_one_count-even.ensures ∙ c.if-even.false)) c.refuse_ports.ensures

@@ -85,11 +85,7 @@ pub(crate) fn top_level(format: u64) -> Level
     }
 }
 
-fn read_observed(
-    alloc: Global,
-    format: u64,
-    table: &Table,
-) -> Result<Observed, ContractError>
+fn read_observed(alloc: Global, format: u64, table: &Table) -> Result<Observed, ContractError>
     requires format { format_of (table_view table.now) ≡ Some format }
     requires fit { TopFits format (table_view table.now) }
     ensures { MatchResult result (SaysObserved format (table_view table.now)) (λ e. (need : Need) → IsFault need (table_view table.now) e) }
@@ -113,11 +109,7 @@ fn read_observed(
     }
 }
 
-fn read_inside(
-    alloc: Global,
-    format: u64,
-    table: &Table,
-) -> Result<Inside, ContractError>
+fn read_inside(alloc: Global, format: u64, table: &Table) -> Result<Inside, ContractError>
     requires format { format_of (table_view table.now) ≡ Some format }
     requires fit { TopFits format (table_view table.now) }
     ensures { MatchResult result (SaysInside (table_view table.now)) (λ e. (need : Need) → IsFault need (table_view table.now) e) }

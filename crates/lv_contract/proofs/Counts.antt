@@ -1,5 +1,5 @@
 -- Ranges of what was read, from those of the document.
-use Rattle.std.proofs.Common.{◌≡◌, ℕ, ◌≤◌, Bool, true, ◌&&◌, ◌==◌, nat_le, List, [], ◌∷◌, length, map, Option, refl, sym, ap, ◌∙◌, subst, arith}
+use Rattle.std.proofs.Common.{◌≡◌, ℕ, ◌≤◌, Bool, true, ◌&&◌, nat_le, List, [], ◌∷◌, length, map, Option, refl, sym, ap, ◌∙◌, subst}
 use Rattle.std.specs.List.{list_all}
 use Rattle.std.proofs.lemmas.Bool.{and_parts, leb-true}
 use Rattle.std.proofs.lemmas.List.{length-map}
@@ -11,7 +11,7 @@ use Rattle.lv_contract.specs.declared.named.Guarded.{Guarded}
 use Rattle.lv_contract.specs.declared.named.PortText.{PortText}
 use Rattle.lv_contract.specs.declared.named.SimState.{SimState}
 use Rattle.lv_contract.specs.declared.named.SimInput.{SimInput}
-use Rattle.lv_contract.specs.Values.{number_at, text_at, string_at, texts_at, lists_at, is_printable, is_name, within}
+use Rattle.lv_contract.specs.Values.{number_at, text_at, string_at, texts_at, lists_at, is_printable, is_name}
 use Rattle.lv_contract.specs.Ranges.{in_range, in_count, is_name_or_none, is_port_count, are_same}
 use Rattle.lv_contract.specs.Named.{texts, PortTexts, port_texts, pair_of, guarded_pair, state_pair, inputs_of, input_texts, contract_counts}
 use Rattle.lv_contract.specs.Shapes.{TextsFit, ListsFit, InitialFits, CandidatesFit, SimulationFits, PortsFit, TopFits, port_tables, contract_count}

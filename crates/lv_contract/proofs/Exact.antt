@@ -1,18 +1,15 @@
 -- A file that is a contract has no cause of a refusal.
-use Rattle.std.proofs.Common.{◌≡◌, ℕ, zero, suc, ◌+◌, ◌*◌, ◌<◌, Bool, true, false, not, ◌&&◌, ◌||◌, ◌==◌, if◌then◌else◌, List, [], ◌∷◌, ◌++◌, length, map, drop, get_or, Contains, Option, Some, None, option_and_then, unwrap_or, slice_get, ◌⊎◌, inl, inr, refl, sym, ap, ◌∙◌, subst, arith}
-use Rattle.std.specs.List.{list_all, list_any, AllByRecursion}
+use Rattle.std.proofs.Common.{◌≡◌, ℕ, zero, suc, ◌<◌, Bool, true, false, not, ◌||◌, if◌then◌else◌, List, [], ◌∷◌, ◌++◌, length, map, drop, get_or, Contains, Option, Some, None, option_and_then, unwrap_or, slice_get, ◌⊎◌, inl, inr, refl, sym, ap, ◌∙◌, subst, arith}
+use Rattle.std.specs.List.{list_all, AllByRecursion}
 use Rattle.std.specs.Str.{bytes_eq}
 use Rattle.std.proofs.lemmas.Bool.{false≢true, and_parts}
-use Rattle.std.proofs.lemmas.List.{length-map}
 use Rattle.std.proofs.lemmas.Option.{none-some}
 use Rattle.std.proofs.lemmas.Slice.Eq.{bytes_eq-Decides}
 use Rattle.std.proofs.Math.Logic.{∥∥₁_elim}
-use Rattle.toml.specs.Data.{Data, Items, no_items, item, Members, no_members, member, as_array, as_str, as_table}
+use Rattle.toml.specs.Data.{Data, Items, no_items, item, Members, no_members, member, as_array, as_str}
 use Rattle.lv_ast.specs.declared.expr.Expr.{Expr}
 use Rattle.lv_contract.specs.declared.key.Key.{Key}
 use Rattle.lv_contract.specs.declared.key.Key.TheVariants as k
-use Rattle.lv_contract.specs.declared.key.Kind.{Kind}
-use Rattle.lv_contract.specs.declared.key.Kind.TheVariants as kind
 use Rattle.lv_contract.specs.declared.key.Level.{Level}
 use Rattle.lv_contract.specs.declared.key.Level.TheVariants as l
 use Rattle.lv_contract.specs.declared.need.Need.{Need}
@@ -25,13 +22,13 @@ use Rattle.lv_contract.specs.declared.contract.SimTable.{SimTable}
 use Rattle.lv_contract.specs.declared.contract.Contract.{Contract}
 use Rattle.lv_contract.specs.declared.error.ContractError.{ContractError}
 use Rattle.lv_contract.specs.declared.error.ContractError.TheVariants as error
-use Rattle.lv_contract.specs.Keys.{name_of, kind_of, keys_of, common_keys, is_known, is_needed}
-use Rattle.lv_contract.specs.Values.{value_at, number_of, text_of, items_of, members_of, items_at, text_at, texts_at, lists_at, table_at, members_at, texts_in, lists_in, tables_in, has_word, knows_all, passes, within, fits, fits_row, keeps_row, keeps}
+use Rattle.lv_contract.specs.Keys.{kind_of, keys_of, common_keys, is_known, is_needed}
+use Rattle.lv_contract.specs.Values.{value_at, number_of, text_of, items_of, items_at, text_at, texts_at, lists_at, table_at, members_at, texts_in, lists_in, tables_in, has_word, knows_all, passes, within, fits_row, keeps_row}
 use Rattle.lv_contract.specs.Ranges.{are_same}
 use Rattle.lv_contract.specs.Shapes.{contract_count}
 use Rattle.lv_contract.specs.Expressions.{IsExpression}
 use Rattle.lv_contract.specs.Named.{texts, PortTexts, port_texts, Pair, pair_of, guarded_pair, state_pair, Inputs, inputs_of, input_texts, contract_counts}
-use Rattle.lv_contract.specs.Parts.{port_in, in_format, format_of, part_in, part_of, StandsAt, IsUnknownFault, IsKeyFault, IsPartFault}
+use Rattle.lv_contract.specs.Parts.{port_in, in_format, part_in, part_of, StandsAt, IsUnknownFault, IsKeyFault, IsPartFault}
 use Rattle.lv_contract.specs.Says.{port_at, ports_at, Says, SaysSimulation, SaysTable, IsDocument, IsContractIn, IsContractFile}
 use Rattle.lv_contract.specs.Refusals.{IsFault, IsFaultOf, IsFaultInPart, HasUnequalPorts, IsRefusal}
 use Rattle.lv_contract.proofs.Kept.{part_is, one_or_two}

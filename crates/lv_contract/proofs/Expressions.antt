@@ -1,5 +1,5 @@
 -- Which texts are expressions.
-use Rattle.std.proofs.Common.{◌≡◌, ℕ, zero, suc, ◌+◌, ◌-◌, ◌<◌, ◌≤◌, ◌&&◌, Bool, true, false, nat_lt, if◌then◌else◌, List, [], ◌∷◌, ◌++◌, length, take, drop, map, Option, Some, None, ◌⊎◌, inl, inr, refl, sym, ap, ◌∙◌, subst, arith, slice_get}
+use Rattle.std.proofs.Common.{◌≡◌, ℕ, zero, suc, ◌+◌, ◌<◌, ◌≤◌, Bool, true, false, nat_lt, if◌then◌else◌, List, [], ◌∷◌, length, take, drop, Option, Some, None, ◌⊎◌, inl, inr, refl, sym, ap, ◌∙◌, subst, arith, slice_get}
 use Rattle.std.proofs.lemmas.Bool.{false≢true}
 use Rattle.std.proofs.lemmas.List.{take_all, length-map, take-append-drop}
 use Rattle.std.proofs.lemmas.Option.{none-some}
@@ -13,7 +13,7 @@ use Rattle.lv_exprs.specs.declared.symbol.Sign.TheVariants as g
 use Rattle.lv_exprs.specs.Forms as forms
 use Rattle.lv_exprs.specs.Forms.{Form, plain, based, sized, name, dot, bit, part, prefix, binary, choice, paren, cast, pair, brace, repeat, IsExpr, Valid, Begins, is_free, rank, cut}
 use Rattle.lv_exprs.specs.Heights.{height}
-use Rattle.lv_exprs.specs.Reading.{Reads, Fails, IsTooHigh}
+use Rattle.lv_exprs.specs.Reading.{Reads, Fails}
 use Rattle.lv_exprs.specs.Answers.{IsDeep}
 use Rattle.lv_exprs.specs.Symbols.{symbol, symbols}
 use Rattle.lv_exprs.specs.Trees.{tree, unary, infix_tree, based_literal, sized_literal}
@@ -23,7 +23,7 @@ use Rattle.lv_lexer.specs.declared.error.LexError.TheVariants.{BadByte, BadLiter
 use Rattle.lv_lexer.specs.Refusals.{IsLexRefusal}
 use Rattle.lv_lexer.proofs.Unique.{one_token_list}
 use Rattle.lv_lexer.proofs.Stands.{some-same}
-use Rattle.lv_contract.specs.Expressions.{AreTokens, IsForm, IsExpression, IsNoExpression, IsByteOf, unlexed_at, ends_at, too_high_at, free_at, length_at, IsPlace, number_in, place_of, start_or, free_place, IsUnreadAt}
+use Rattle.lv_contract.specs.Expressions.{AreTokens, IsExpression, IsNoExpression, IsByteOf, unlexed_at, ends_at, too_high_at, free_at, length_at, IsPlace, number_in, place_of, start_or, free_place, IsUnreadAt}
 use Rattle.lv_contract.specs.Expressions.{unlexed as answer}
 use Rattle.lv_contract.proofs.Reached.{no_bad_byte, no_bad_literal, no_unclosed, no_more}
 

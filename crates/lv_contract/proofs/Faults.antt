@@ -1,7 +1,7 @@
 -- From a fault of a table to a fault of the document.
-use Rattle.std.proofs.Common.{◌≡◌, ℕ, zero, suc, ◌<◌, Bool, true, false, ◌==◌, if◌then◌else◌, List, [], ◌∷◌, ◌++◌, length, map, get_or, Contains, Option, Some, None, unwrap_or, slice_get, ◌⊎◌, inl, inr, refl, sym, ap, ◌∙◌, subst, arith}
+use Rattle.std.proofs.Common.{◌≡◌, ℕ, zero, suc, true, false, ◌==◌, if◌then◌else◌, List, [], ◌∷◌, ◌++◌, map, Contains, Some, None, unwrap_or, slice_get, ◌⊎◌, inl, inr, refl, sym, ap, ◌∙◌, subst}
 use Rattle.std.proofs.lemmas.Option.{none-some}
-use Rattle.toml.specs.Data.{Items, Members, no_members}
+use Rattle.toml.specs.Data.{Members, no_members}
 use Rattle.lv_contract.specs.declared.key.Key.{Key}
 use Rattle.lv_contract.specs.declared.key.Key.TheVariants as k
 use Rattle.lv_contract.specs.declared.key.Level.{Level}
@@ -9,11 +9,11 @@ use Rattle.lv_contract.specs.declared.key.Level.TheVariants as l
 use Rattle.lv_contract.specs.declared.need.Need.{Need}
 use Rattle.lv_contract.specs.declared.error.ContractError.{ContractError}
 use Rattle.lv_contract.specs.declared.error.ContractError.TheVariants as error
-use Rattle.lv_contract.specs.Keys.{keys_of, common_keys, full_name}
+use Rattle.lv_contract.specs.Keys.{keys_of, common_keys}
 use Rattle.lv_contract.specs.Values.{table_at, members_at, items_at, tables_in, all_items, is_table}
 use Rattle.lv_contract.specs.Ranges.{are_same}
 use Rattle.lv_contract.specs.Shapes.{contract_count, top_level}
-use Rattle.lv_contract.specs.Parts.{port_in, format_of, part_in, part_of, IsKeyFault, IsPartFault, IsSpellingFault, HasSpellingFault, HasFaultInside, HasPortKeyFault, HasPortFault, HasPortsFault}
+use Rattle.lv_contract.specs.Parts.{port_in, format_of, part_in, IsKeyFault, IsPartFault, IsSpellingFault, HasSpellingFault, HasFaultInside, HasPortKeyFault, HasPortsFault}
 use Rattle.lv_contract.specs.Checks.{HasPartFaultInside, HasPortPartFault, IsPortsRefusal}
 use Rattle.lv_contract.specs.Refusals.{IsFault}
 use Rattle.lv_contract.proofs.Elements.{contains_get}

@@ -1,5 +1,5 @@
 -- What a table that keeps its rows gives to read.
-use Rattle.std.proofs.Common.{◌≡◌, ℕ, zero, suc, ◌+◌, ◌≤◌, Bool, true, false, not, ◌&&◌, ◌||◌, ◌==◌, nat_le, if◌then◌else◌, List, [], ◌∷◌, ◌++◌, length, map, Option, Some, None, option_and_then, unwrap_or, is_some, slice_get, ◌⊎◌, inl, inr, refl, sym, ap, ◌∙◌, subst, arith}
+use Rattle.std.proofs.Common.{◌≡◌, ℕ, zero, suc, ◌≤◌, Bool, true, false, not, ◌&&◌, ◌||◌, ◌==◌, nat_le, if◌then◌else◌, List, [], ◌∷◌, ◌++◌, length, Option, Some, None, option_and_then, unwrap_or, is_some, slice_get, ◌⊎◌, inl, inr, refl, sym, ap, ◌∙◌, subst, arith}
 use Rattle.std.specs.List.{list_all}
 use Rattle.std.proofs.lemmas.Bool.{false≢true, and_parts, le-leb, leb-true}
 use Rattle.std.proofs.lemmas.Option.{none-some}
@@ -10,11 +10,11 @@ use Rattle.lv_contract.specs.declared.key.Level.{Level}
 use Rattle.lv_contract.specs.declared.key.Level.TheVariants as l
 use Rattle.lv_contract.specs.declared.need.Need.{Need}
 use Rattle.lv_contract.specs.Keys.{kind_of, keys_of, common_keys, is_needed}
-use Rattle.lv_contract.specs.Values.{value_at, number_of, text_of, items_of, members_of, items_at, text_at, string_at, number_at, texts_in, lists_in, tables_in, texts_at, lists_at, members_at, table_at, passes, within, is_printable, is_name, is_text, is_list, is_table, all_items, count, are_texts, are_lists, are_ports, has_lists, fits, fits_row, keeps_row, keeps, knows_all}
-use Rattle.lv_contract.specs.Ranges.{in_range, in_count, is_name_or_none, is_port_count, are_same}
-use Rattle.lv_contract.specs.Shapes.{TextsFit, ListsFit, PortFits, EachPortFits, InitialFits, CandidatesFit, SimulationFits, PortsFit, TopFits, port_tables, contract_count, top_level}
+use Rattle.lv_contract.specs.Values.{value_at, number_of, items_of, items_at, string_at, number_at, texts_in, lists_in, tables_in, texts_at, lists_at, table_at, passes, within, is_printable, is_name, is_text, is_list, is_table, all_items, count, are_texts, are_lists, are_ports, has_lists, fits, fits_row, keeps_row, keeps, knows_all}
+use Rattle.lv_contract.specs.Ranges.{in_range, in_count, is_name_or_none}
+use Rattle.lv_contract.specs.Shapes.{TextsFit, ListsFit, PortFits, EachPortFits, InitialFits, CandidatesFit, SimulationFits, PortsFit, TopFits, top_level}
 use Rattle.lv_contract.specs.Parts.{port_in, in_format, format_of, part_in, part_of}
-use Rattle.lv_contract.specs.Checks.{Keeps, PortsKeep}
+use Rattle.lv_contract.specs.Checks.{Keeps}
 use Rattle.lv_contract.proofs.Elements.{passes_at}
 
 some-members : (x y : Members) → Some x ≡ Some y → x ≡ y

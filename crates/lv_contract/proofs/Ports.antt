@@ -1,5 +1,5 @@
 -- The tables of `port`, read one after another.
-use Rattle.std.proofs.Common.{◌≡◌, ℕ, zero, suc, ◌+◌, ◌<◌, ◌≤◌, Bool, true, false, ◌==◌, nat_le, if◌then◌else◌, List, [], ◌∷◌, length, map, drop, get_or, Option, Some, None, option_and_then, unwrap_or, slice_get, refl, sym, ap, ◌∙◌, subst, arith}
+use Rattle.std.proofs.Common.{◌≡◌, ℕ, zero, suc, ◌+◌, ◌<◌, ◌≤◌, Bool, true, false, ◌==◌, nat_le, if◌then◌else◌, List, [], ◌∷◌, length, map, drop, get_or, Some, unwrap_or, slice_get, refl, sym, ap, ◌∙◌, subst, arith}
 use Rattle.std.specs.List.{list_all}
 use Rattle.std.proofs.lemmas.Bool.{eqb-true, and_parts, leb-true}
 use Rattle.std.proofs.lemmas.List.{length-map}
@@ -8,7 +8,7 @@ use Rattle.toml.specs.Data.{Data, Items, Members, no_members, as_table}
 use Rattle.toml.specs.View.{view, items_view}
 use Rattle.toml.specs.declared.value.Value.{Value}
 use Rattle.lv_contract.specs.declared.key.Key.TheVariants as k
-use Rattle.lv_contract.specs.Values.{members_of, items_at, texts_at, texts_in, tables_in}
+use Rattle.lv_contract.specs.Values.{members_of, items_at, texts_in, tables_in}
 use Rattle.lv_contract.specs.Ranges.{are_same, is_port_count}
 use Rattle.lv_contract.specs.Shapes.{contract_count, PortFits, EachPortFits, PortsFit, port_tables}
 use Rattle.lv_contract.specs.Parts.{port_in}

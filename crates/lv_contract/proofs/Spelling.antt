@@ -1,5 +1,5 @@
 -- From a fault at one text to a fault of its key.
-use Rattle.std.proofs.Common.{◌≡◌, ℕ, zero, suc, ◌+◌, ◌*◌, ◌^◌, ◌<◌, ◌≤◌, Bool, true, false, ◌&&◌, nat_le, drop, List, [], ◌∷◌, length, get_or, Contains, Option, Some, None, option_and_then, unwrap_or, slice_get, inl, inr, refl, sym, ap, ◌∙◌, subst, arith}
+use Rattle.std.proofs.Common.{◌≡◌, ℕ, zero, suc, ◌+◌, ◌*◌, ◌^◌, ◌<◌, ◌≤◌, Bool, true, false, nat_le, drop, List, [], ◌∷◌, length, get_or, Contains, Option, Some, None, option_and_then, unwrap_or, slice_get, refl, sym, ap, ◌∙◌, subst, arith}
 use Rattle.std.specs.List.{list_all}
 use Rattle.std.proofs.lemmas.Bool.{false≢true, and_parts, le-leb, leb-true}
 use Rattle.std.proofs.lemmas.List.{length-map}
@@ -14,7 +14,7 @@ use Rattle.lv_contract.specs.declared.key.Level.{Level}
 use Rattle.lv_contract.specs.declared.error.ContractError.{ContractError}
 use Rattle.lv_contract.specs.declared.error.ContractError.TheVariants as error
 use Rattle.lv_contract.specs.Keys.{kind_of}
-use Rattle.lv_contract.specs.Values.{value_at, text_of, items_of, items_at, text_at, string_at, texts_in, lists_in, texts_at, lists_at, text_in, passes, within, is_printable}
+use Rattle.lv_contract.specs.Values.{value_at, text_of, items_of, text_at, string_at, texts_in, lists_in, texts_at, lists_at, text_in, passes, within, is_printable}
 use Rattle.lv_contract.specs.Ranges.{fits_count, in_count}
 use Rattle.lv_contract.specs.declared.key.Key.TheVariants as k
 use Rattle.lv_contract.specs.declared.key.Level.TheVariants as l

@@ -1,5 +1,5 @@
 -- The data of an array's values, read as lists.
-use Rattle.std.proofs.Common.{◌≡◌, ℕ, zero, suc, ◌+◌, ◌<◌, get_or, sym, Bool, ◌&&◌, List, [], ◌∷◌, length, take, map, ◌≤◌, refl, ap, arith, rules}
+use Rattle.std.proofs.Common.{◌≡◌, ℕ, zero, suc, ◌<◌, get_or, sym, Bool, ◌&&◌, List, [], ◌∷◌, length, take, map, ◌≤◌, refl, ap, arith}
 use Rattle.std.proofs.lemmas.List.{take_all}
 use Rattle.std.specs.List.{list_all}
 use Rattle.toml.specs.Data.{Data, Members}

@@ -1,5 +1,5 @@
 -- Expressions in the strings of a contract file.
-use Rattle.std.specs.Prelude.{◌≡◌, ℕ, ◌+◌, ◌<◌, ◌≤◌, Bool, true, false, nat_lt, if◌then◌else◌, List, length, take, Option, Some, None, slice_get}
+use Rattle.std.specs.Prelude.{◌≡◌, ℕ, ◌+◌, ◌≤◌, true, false, nat_lt, if◌then◌else◌, List, length, take, Option, Some, None, slice_get}
 use Rattle.lv_ast.specs.declared.expr.Expr.{Expr}
 use Rattle.lv_ast.specs.declared.expr.Expr.TheVariants.{Lit}
 use Rattle.lv_ast.specs.declared.expr.Literal.{Literal}

@@ -1,7 +1,6 @@
 -- The tables of a document, and what may be wrong in one of them.
-use Rattle.std.specs.Prelude.{◌≡◌, ℕ, ◌+◌, ◌*◌, Bool, true, false, ◌==◌, List, [], ◌++◌, drop, Option, Some, None, option_and_then, if◌then◌else◌, Contains, ◌⊎◌, slice_get}
+use Rattle.std.specs.Prelude.{◌≡◌, ℕ, ◌+◌, ◌*◌, true, false, ◌==◌, List, ◌++◌, drop, Option, Some, None, option_and_then, if◌then◌else◌, Contains, ◌⊎◌, slice_get}
 use Rattle.toml.specs.Data.{Data, Items, Members, as_table, get_item}
-use Rattle.lv_ast.specs.declared.expr.Expr.{Expr}
 use Rattle.lv_contract.specs.declared.key.Key.{Key}
 use Rattle.lv_contract.specs.declared.key.Key.TheVariants as k
 use Rattle.lv_contract.specs.declared.key.Kind.{Kind}

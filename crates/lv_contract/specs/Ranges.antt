@@ -1,5 +1,5 @@
 -- Ranges of what a contract holds, by the table of keys.
-use Rattle.std.specs.Prelude.{ℕ, Bool, true, false, ◌&&◌, ◌==◌, List, [], ◌∷◌, Option, Some, None, if◌then◌else◌}
+use Rattle.std.specs.Prelude.{ℕ, Bool, true, false, ◌==◌, List, [], ◌∷◌, Option, Some, None, if◌then◌else◌}
 use Rattle.std.specs.List.{list_all}
 use Rattle.lv_contract.specs.declared.key.Key.{Key}
 use Rattle.lv_contract.specs.declared.key.Kind.{Kind}

@@ -1,5 +1,5 @@
 -- Why bytes are refused.
-use Rattle.std.specs.Prelude.{◌≡◌, ℕ, ◌+◌, Bool, false, List, length, map, Option, Some, None, ◌⊎◌, codes}
+use Rattle.std.specs.Prelude.{◌≡◌, ℕ, false, List, map, Some, ◌⊎◌}
 use Rattle.toml.specs.Data.{Members}
 use Rattle.lv_contract.specs.declared.key.Key.TheVariants as k
 use Rattle.lv_contract.specs.declared.key.Level.{Level}

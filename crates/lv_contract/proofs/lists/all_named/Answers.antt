@@ -1,5 +1,5 @@
 use Rattle.std.proofs.Common.{Some, ap, sym, ◌∙◌}
-use Rattle.toml.specs.View.{view, items_view}
+use Rattle.toml.specs.View.{items_view}
 use Rattle.lv_contract.specs.Values.{texts_in}
 use Rattle.lv_contract.proofs.Spelling.{printable_text, texts_at_place, among}
 use Rattle.lv_contract.proofs.lists.all_named.Goals as goal

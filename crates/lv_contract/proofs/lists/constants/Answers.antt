@@ -1,5 +1,5 @@
-use Rattle.std.proofs.Common.{get_or, sym, ◌∙◌}
-use Rattle.toml.specs.View.{view, items_view}
+use Rattle.std.proofs.Common.{sym}
+use Rattle.toml.specs.View.{items_view}
 use Rattle.lv_contract.specs.declared.key.Key.TheVariants as k
 use Rattle.lv_contract.specs.declared.key.Level.TheVariants as l
 use Rattle.lv_contract.specs.Values.{texts_in}

@@ -1,7 +1,6 @@
-use Rattle.std.proofs.Common.{◌*◌, ap, subst, sym}
-use Rattle.std.specs.List.{list_all}
+use Rattle.std.proofs.Common.{◌*◌, ap, subst}
 use Rattle.toml.specs.View.{table_view}
-use Rattle.lv_contract.specs.Values.{is_printable, texts_in}
+use Rattle.lv_contract.specs.Values.{texts_in}
 use Rattle.lv_contract.specs.Parts.{IsFaultAmong}
 use Rattle.lv_contract.proofs.Spelling.{few_texts, expressions_fault}
 use Rattle.lv_contract.proofs.lists.expressions.Goals as goal

@@ -1,6 +1,5 @@
-use Rattle.std.proofs.Common.{ap, sym, ◌∙◌, drop}
-use Rattle.lv_contract.specs.Values.{texts_in}
-use Rattle.lv_contract.proofs.Spelling.{printable_part, rest_printable, rest_few, rest_texts, input_fault}
+use Rattle.std.proofs.Common.{◌∙◌}
+use Rattle.lv_contract.proofs.Spelling.{printable_part, rest_printable, rest_few, input_fault}
 use Rattle.lv_contract.proofs.lists.input.Goals as goal
 
 pub constants-requires : goal.constants-requires

@@ -5,7 +5,7 @@ use Rattle.lv_contract.specs.declared.key.Level.TheVariants as l
 use Rattle.lv_contract.specs.Values.{lists_in}
 use Rattle.lv_contract.specs.Named.{inputs_of}
 use Rattle.lv_contract.proofs.Views.{taken_all, lists_mapped}
-use Rattle.lv_contract.proofs.Spelling.{lists_place, lists_fault, printable_list as printable, place_few, few_in}
+use Rattle.lv_contract.proofs.Spelling.{lists_place, lists_fault, printable_list as printable, few_in}
 use Rattle.lv_contract.proofs.lists.inputs.Goals as goal
 
 pub input-requires : goal.input-requires

@@ -1,0 +1,10 @@
+pub mod Expressions
+pub mod Counts
+pub mod Elements
+pub mod Exact
+pub mod Faults
+pub mod Kept
+pub mod Ports
+pub mod Reached
+pub mod Spelling
+pub mod Views

@@ -1,0 +1,12 @@
+pub mod Checks
+pub mod Says
+pub mod Expressions
+pub mod Gathered
+pub mod Keys
+pub mod Named
+pub mod Parts
+pub mod Ranges
+pub mod Refusals
+pub mod Shapes
+pub mod Tables
+pub mod Values

@@ -1,0 +1,354 @@
+//! Rows of edits of two contract files. `@` stands for a newline. The answers are those that docs/CONTRACT.md tells.
+use crate::contract::Contract;
+use crate::error::ContractError;
+use crate::need::Need;
+use crate::read::read_contract;
+use lv_bits::Text;
+use std::alloc::Global;
+use std::str;
+use std::test::Fail;
+
+fn first() -> &'static str {
+    r#"format = 1
+files = ["t.v"]
+top = "t"
+clock = "clk"
+lookahead = 0
+retire = "r"
+contract = ["c", "d"]
+attacker = ["a"]
+[initial]
+equal = ["e"]
+each = ["f"]
+[candidates]
+registers = true
+equal = ["g"]
+when = [["h", "i"]]
+each = ["j"]
+aligned = true
+[sim]
+cycles = 7
+show = ["s"]
+state = [["q", "1'b0"]]
+input = [["x", "1'b1", "1'b0"]]
+"#
+}
+
+fn second() -> &'static str {
+    r#"format = 2
+files = ["t.v"]
+top = "t"
+clock = "clk"
+lookahead = 0
+attacker = ["y"]
+[[port]]
+retire = "m"
+contract = ["k"]
+[[port]]
+retire = "!m"
+contract = ["l"]
+"#
+}
+
+fn first_rows() -> &'static str {
+    r#"ok|format = 1|format = 0x1
+ok|"t.v"|''
+ok|top = "t"|top = " ~"
+ok|lookahead = 0|lookahead = 32@budget = 2000000@cycles = 64@certificate = "c.cert"@assume = ["x"]
+ok|lookahead = 0|budget = 0@cycles = 0@lookahead = 1
+ok|retire = "r"|retire = "u.v[3].w + 4'd2"
+ok|contract = ["c", "d"]@|
+ok|contract = ["c", "d"]|contract = []
+ok|[initial]@equal = ["e"]@each = ["f"]@|
+ok|equal = ["e"]@each = ["f"]@|
+ok|registers = true@equal = ["g"]@when = [["h", "i"]]@each = ["j"]@aligned = true@|
+ok|when = [["h", "i"]]|when = []
+ok|state = [["q", "1'b0"]]@input = [["x", "1'b1", "1'b0"]]@|
+ok|cycles = 7|cycles = 10000
+ok|cycles = 7|cycles = 1
+ok|input = [["x", "1'b1", "1'b0"]]|input = [["x"]]
+toml|format = 1|format =
+toml|format = 1|format = 1@format = 1
+key format|format = 1@|
+key format|format = 1|colour = 1
+value format|format = 1|format = 3@colour = 1
+value format|format = 1|format = 0
+value format|format = 1|format = -1
+value format|format = 1|format = 9223372036854775807
+value format|format = 1|format = 1.0
+value format|format = 1|format = "1"
+key colour|format = 1|format = 1@colour = 1
+key port|each = ["j"]@aligned = true|aligned = true@[[port]]@retire = "m"
+key files|files = ["t.v"]@|
+value files|files = ["t.v"]|files = []
+value files|files = ["t.v"]|files = "t.v"
+value files|files = ["t.v"]|files = [1]
+value files|files = ["t.v"]|files = ["\u007f"]
+key top|top = "t"@|
+value top|top = "t"|top = ""
+value top|top = "t"|top = 1
+value top|top = "t"|top = "\u00e9"
+value top|top = "t"|top = "\u001f"
+value top|top = "t"|top = "\u007f"
+key clock|clock = "clk"@|
+value clock|clock = "clk"|clock = ""
+value clock|clock = "clk"|clock = ["clk"]
+key lookahead|lookahead = 0@|
+value lookahead|lookahead = 0|lookahead = 33
+value lookahead|lookahead = 0|lookahead = -1
+value lookahead|lookahead = 0|lookahead = false
+value budget|lookahead = 0|lookahead = 0@budget = 2000001
+value budget|lookahead = 0|lookahead = 0@budget = -1
+value budget|lookahead = 0|lookahead = 0@budget = "1"
+value cycles|lookahead = 0|lookahead = 0@cycles = 65
+value cycles|lookahead = 0|lookahead = 0@cycles = -1
+value cycles|lookahead = 0|lookahead = 0@cycles = []
+value certificate|lookahead = 0|lookahead = 0@certificate = ""
+value certificate|lookahead = 0|lookahead = 0@certificate = 1
+key retire|retire = "r"@|
+value retire|retire = "r"|retire = ["r"]
+value retire|retire = "r"|retire = "\t"
+value contract|contract = ["c", "d"]|contract = "c"
+value contract|contract = ["c", "d"]|contract = ["c", 1]
+value contract|contract = ["c", "d"]|contract = ["c", "\n"]
+key attacker|attacker = ["a"]@|
+value attacker|attacker = ["a"]|attacker = []
+value attacker|attacker = ["a"]|attacker = "a"
+value assume|lookahead = 0|lookahead = 0@assume = [true]
+value assume|lookahead = 0|lookahead = 0@assume = "x"
+value initial|[initial]@equal = ["e"]@each = ["f"]@|initial = 1@
+key initial.colour|equal = ["e"]|equal = ["e"]@colour = 1
+value initial.equal|equal = ["e"]|equal = "e"
+value initial.each|each = ["f"]|each = [["f"]]
+value candidates|[candidates]|[[candidates]]
+key candidates.colour|registers = true|colour = 1
+value candidates.registers|registers = true|registers = 1
+value candidates.equal|equal = ["g"]|equal = [1]
+value candidates.when|when = [["h", "i"]]|when = [["h"]]
+value candidates.when|when = [["h", "i"]]|when = [["h", "i", "j"]]
+value candidates.when|when = [["h", "i"]]|when = ["h", "i"]
+value candidates.each|each = ["j"]|each = 1
+value candidates.aligned|aligned = true|aligned = "true"
+value sim|[sim]|[[sim]]
+key sim.colour|cycles = 7|cycles = 7@colour = 1
+key sim.cycles|cycles = 7@|
+value sim.cycles|cycles = 7|cycles = 0
+value sim.cycles|cycles = 7|cycles = 10001
+value sim.cycles|cycles = 7|cycles = "7"
+key sim.show|show = ["s"]@|
+value sim.show|show = ["s"]|show = "s"
+value sim.state|state = [["q", "1'b0"]]|state = [["q"]]
+value sim.state|state = [["q", "1'b0"]]|state = 1
+value sim.input|input = [["x", "1'b1", "1'b0"]]|input = [[]]
+value sim.input|input = [["x", "1'b1", "1'b0"]]|input = ["x"]
+expr retire 0 0|retire = "r"|retire = ""
+expr retire 0 2|retire = "r"|retire = "a `"
+expr retire 0 2|retire = "r"|retire = "a /* b"
+expr retire 0 0|retire = "r"|retire = "340282366920938463463374607431768211456"
+expr retire 0 2|retire = "r"|retire = "a ;"
+expr retire 0 4|retire = "r"|retire = "a + ;"
+expr retire 0 3|retire = "r"|retire = "a +"
+expr retire 0 1|retire = "r"|retire = " 4'b1?"
+expr retire 0 2|retire = "r"|retire = "(4'b1?)"
+expr contract 1 1|contract = ["c", "d"]|contract = ["c", "+"]
+expr attacker 1 0|attacker = ["a"]|attacker = ["a", ""]
+expr assume 0 0|lookahead = 0|lookahead = 0@assume = [")"]
+expr initial.each 0 2|each = ["f"]|each = ["f ]"]
+expr candidates.when 2 2|when = [["h", "i"]]|when = [["h", "i"], ["j ;", "k"]]
+expr candidates.when 3 2|when = [["h", "i"]]|when = [["h", "i"], ["j", "k ;"]]
+expr sim.state 0 1|state = [["q", "1'b0"]]|state = [["q", "-"]]
+expr sim.input 1 1|input = [["x", "1'b1", "1'b0"]]|input = [["x", "0"], ["y", "1", "~"]]"#
+}
+
+fn second_rows() -> &'static str {
+    r#"ok|contract = ["k"]|contract = ["l"]
+ok|contract = ["k"]@[[port]]@retire = "!m"@contract = ["l"]@|
+value port|contract = ["l"]|contract = []
+value port|contract = ["l"]|contract = ["l", "l"]
+ok|[[port]]@retire = "m"|[[port]]@retire = "n"@contract = ["k"]@[[port]]@retire = "n"@contract = ["k"]@[[port]]@retire = "m"
+value port|[[port]]@retire = "m"|[[port]]@retire = "n"@contract = ["k"]@[[port]]@retire = "n"@contract = ["k"]@[[port]]@retire = "n"@contract = ["k"]@[[port]]@retire = "m"
+key port|[[port]]@retire = "m"@contract = ["k"]@[[port]]@retire = "!m"@contract = ["l"]@|
+value port|[[port]]@retire = "m"@contract = ["k"]@[[port]]@retire = "!m"@contract = ["l"]@|port = []@
+value port|[[port]]@retire = "m"@contract = ["k"]@[[port]]@retire = "!m"@contract = ["l"]@|port = [1]@
+value port|[[port]]@retire = "m"@contract = ["k"]@[[port]]@retire = "!m"@contract = ["l"]@|[port]@retire = "m"@
+key retire|lookahead = 0|lookahead = 0@retire = "m"
+key contract|lookahead = 0|lookahead = 0@contract = ["m"]
+key port.colour|retire = "!m"|retire = "!m"@colour = 1
+key port.retire|retire = "!m"@|
+value port.retire|retire = "!m"|retire = 1
+value port.contract|contract = ["k"]|contract = "k"
+value format|format = 2|format = 3
+expr port.retire 1 1|retire = "!m"|retire = "!"
+expr port.contract 0 1|contract = ["k"]|contract = ["-"]
+expr port.contract 1024 0|contract = ["l"]|contract = ["*"]"#
+}
+
+fn word(text: &Text) -> Result<&str, Fail> {
+    match str::from_utf8(text.bytes()) {
+        Ok(word) => Ok(word),
+        Err(_) => Err("no text")?,
+    }
+}
+
+fn told(alloc: Global, read: Result<Contract, ContractError>) -> Result<String, Fail> {
+    match read {
+        Ok(_) => Ok(format!(in alloc; "ok")?),
+        Err(ContractError::Toml) => Ok(format!(in alloc; "toml")?),
+        Err(ContractError::Key(name)) => Ok(format!(in alloc; "key {}", word(&name)?)?),
+        Err(ContractError::Value(name)) => Ok(format!(in alloc; "value {}", word(&name)?)?),
+        Err(ContractError::Expr(name, entry, byte)) => {
+            Ok(format!(in alloc; "expr {} {} {}", word(&name)?, entry, byte)?)
+        }
+        Err(ContractError::NoMemory) => Ok(format!(in alloc; "memory")?),
+    }
+}
+
+fn answer(alloc: Global, text: &str, need: Need) -> Result<String, Fail> {
+    told(alloc, read_contract(alloc, text.as_bytes(), need))
+}
+
+fn edited(alloc: Global, sample: &str, old: &str, new: &str) -> Result<String, Fail> {
+    let old = old.replace(alloc, "@", "\n")?;
+    let new = new.replace(alloc, "@", "\n")?;
+    Ok(sample.replace(alloc, old.as_str(), new.as_str())?)
+}
+
+#[test]
+fn answers_each_edit(rt: HostRuntime) -> Result<(), Fail> {
+    let alloc = rt.alloc();
+    for (sample, rows) in [(first(), first_rows()), (second(), second_rows())] {
+        assert!(rt; answer(alloc, sample, Need::Nothing)?.as_str() == "ok");
+        for row in rows.lines() {
+            let (wanted, edit) = row.split_once('|').ok_or("no answer")?;
+            let (old, new) = edit.split_once('|').ok_or("no edit")?;
+            let text = edited(alloc, sample, old, new)?;
+            assert!(rt; text.as_str() != sample, "{row}");
+            assert!(rt;
+                answer(alloc, text.as_str(), Need::Nothing)?.as_str() == wanted,
+                "{row}"
+            );
+        }
+    }
+    Ok(())
+}
+
+/// The answer where an entry stands so many times in place of a text.
+fn counted(alloc: Global, old: &str, entry: &str, count: usize) -> Result<String, Fail> {
+    let entries = entry.repeat(alloc, count)?;
+    let text = first().replace(alloc, old, entries.as_str())?;
+    answer(alloc, text.as_str(), Need::Nothing)
+}
+
+#[test]
+fn counts_entries(rt: HostRuntime) -> Result<(), Fail> {
+    let alloc = rt.alloc();
+    for (old, entry, most, past, key) in [
+        ("\"t.v\"", "\"t\",", 64, 65, "files"),
+        ("\"c\", \"d\"", "\"c\",", 1024, 1025, "contract"),
+        ("\"a\"", "\"a\",", 1024, 1025, "attacker"),
+        ("\"e\"", "\"e\",", 1024, 1025, "initial.equal"),
+        ("\"f\"", "\"f\",", 1024, 1025, "initial.each"),
+        ("\"g\"", "\"g\",", 1024, 1025, "candidates.equal"),
+        (
+            "[\"h\", \"i\"]",
+            "[\"h\",\"i\"],",
+            1024,
+            1025,
+            "candidates.when",
+        ),
+        ("\"j\"", "\"j\",", 1024, 1025, "candidates.each"),
+        ("\"s\"", "\"s\",", 1024, 1025, "sim.show"),
+        (
+            "[\"q\", \"1'b0\"]",
+            "[\"q\",\"0\"],",
+            1024,
+            1025,
+            "sim.state",
+        ),
+        (
+            "[\"x\", \"1'b1\", \"1'b0\"]",
+            "[\"x\"],",
+            1024,
+            1025,
+            "sim.input",
+        ),
+        ("\"1'b1\", \"1'b0\"", "\"0\",", 10_000, 10_001, "sim.input"),
+    ] {
+        let refusal = format!(in alloc; "value {key}")?;
+        assert!(rt; counted(alloc, old, entry, most)?.as_str() == "ok");
+        assert!(rt; counted(alloc, old, entry, past)?.as_str() == refusal.as_str());
+    }
+    Ok(())
+}
+
+#[test]
+fn measures_expressions(rt: HostRuntime) -> Result<(), Fail> {
+    let alloc = rt.alloc();
+    // Each expression that begins with 200 signs is too high, which may be told at the last of them, at the operand or at the end.
+    for (count, sign, operand, end) in [
+        (199, "ok", "ok", "ok"),
+        (
+            200,
+            "expr retire 0 199",
+            "expr retire 0 200",
+            "expr retire 0 201",
+        ),
+    ] {
+        let signs = "~".repeat(alloc, count)?;
+        let quoted = format!(in alloc; "retire = \"{signs}a\"")?;
+        let text = first().replace(alloc, "retire = \"r\"", quoted.as_str())?;
+        let given = answer(alloc, text.as_str(), Need::Nothing)?;
+        let given = given.as_str();
+        assert!(rt; given == sign || given == operand || given == end);
+    }
+    Ok(())
+}
+
+#[test]
+fn asks_for_what_is_needed(rt: HostRuntime) -> Result<(), Fail> {
+    let alloc = rt.alloc();
+    assert!(rt; answer(alloc, first(), Need::Certificate)?.as_str() == "key certificate");
+    assert!(rt; answer(alloc, first(), Need::Simulation)?.as_str() == "ok");
+    assert!(rt; answer(alloc, second(), Need::Simulation)?.as_str() == "key sim");
+    let text = edited(
+        alloc,
+        first(),
+        "lookahead = 0",
+        "lookahead = 0@certificate = \"c\"",
+    )?;
+    assert!(rt; answer(alloc, text.as_str(), Need::Certificate)?.as_str() == "ok");
+    assert!(rt; told(alloc, read_contract(alloc, b"\xff", Need::Nothing))?.as_str() == "toml");
+    Ok(())
+}
+
+fn is_at(list: Option<&Text>, bytes: &[u8]) -> bool {
+    match list {
+        Some(text) => text.bytes() == bytes,
+        None => false,
+    }
+}
+
+#[test]
+fn gives_what_stands_there(rt: HostRuntime) -> Result<(), Fail> {
+    let alloc = rt.alloc();
+    let Ok(c) = read_contract(alloc, first().as_bytes(), Need::Nothing) else {
+        return Err("refused")?;
+    };
+    assert!(rt; c.format == 1 && c.lookahead == 0 && c.budget == 200_000 && c.cycles == 16);
+    assert!(rt; is_at(c.files.get(0), b"t.v") && c.top.bytes() == b"t".as_slice());
+    assert!(rt; c.clock.bytes() == b"clk".as_slice() && c.certificate.is_none());
+    assert!(rt; c.registers && c.aligned && c.ports.len() == 1 && c.assume.len() == 0);
+    let port = c.ports.get(0).ok_or("no port")?;
+    assert!(rt; port.retire.text.bytes() == b"r".as_slice() && port.contract.len() == 2);
+    let pair = c.guarded.get(0).ok_or("no pair")?;
+    assert!(rt;
+        pair.guard.text.bytes() == b"h".as_slice() && pair.expr.text.bytes() == b"i".as_slice()
+    );
+    let sim = c.sim.as_ref().ok_or("no sim")?;
+    assert!(rt; sim.cycles == 7 && sim.show.len() == 1);
+    let state = sim.state.get(0).ok_or("no state")?;
+    assert!(rt; state.register.bytes() == b"q".as_slice());
+    let input = sim.input.get(0).ok_or("no input")?;
+    assert!(rt; input.input.bytes() == b"x".as_slice() && input.values.len() == 2);
+    Ok(())
+}

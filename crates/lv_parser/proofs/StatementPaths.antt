@@ -198,6 +198,18 @@ module _ {text : List ℕ} {tokens : List Token} {d : ℕ → Limit} (at : ℕ) 
   pub not_loop : Path text tokens d rules.stmt_rule at from_loop at (λ y. y) → stands (shapes.word (codes "for")) (from text tokens at) ≡ false → Path text tokens d rules.stmt_rule at rules.assignment at (λ y. y)
   not_loop w e = to_other w (absent text tokens rules.loop at (shapes.word (codes "for")) refl e)
 
+-- ---- an if, and perhaps its else
+
+module _ {text : List ℕ} {tokens : List Token} {d : ℕ → Limit} where
+  pub branches_refused : {at : ℕ} {e : SyntaxError} → IsRefused text tokens d (call shapes.stmt) at e → IsRefused text tokens d rules.branches at e
+  branches_refused {at} q = tail_refused {r = shapes.stmt} {p = shapes.word (codes "else")} {h = call shapes.stmt} {us = at} {build = λ y. y} (begin rules.branches at refl) q
+
+  pub else_next : {at us : ℕ} {x : Stmt} → IsRead text tokens d (call shapes.stmt) at x us → stands (shapes.word (codes "else")) (from text tokens us) ≡ true → Path text tokens d rules.branches at (call shapes.stmt) (us + 1) (λ y. (x, Some y))
+  else_next {at} {us} {x} q e = to_tail {r = shapes.stmt} {p = shapes.word (codes "else")} {h = call shapes.stmt} {us = at} {build = λ y. y} {x = x} (begin rules.branches at refl) q e
+
+  pub no_else : {at us : ℕ} {x : Stmt} → IsRead text tokens d (call shapes.stmt) at x us → stands (shapes.word (codes "else")) (from text tokens us) ≡ false → IsRead text tokens d rules.branches at (x, None) us
+  no_else {at} {us} {x} q e = no_tail {r = shapes.stmt} {p = shapes.word (codes "else")} {h = call shapes.stmt} {us = at} {build = λ y. y} {x = x} (begin rules.branches at refl) q e
+
 -- ---- assignments
 
 pub later_by : (text : List ℕ) (tokens : List Token) (at : ℕ) {t : Target} {x : Expr} {later : Bool} {place : ℕ} → later ≡ true → place ≡ place_of (from text tokens at) → rules.assigned_by later (placed text tokens at t) x ≡ stmt.Later t x place

@@ -6,7 +6,7 @@ use Rattle.lv_parser.specs.Rules as rules
 use Rattle.lv_parser.proofs.Paths.{begin, through, then, last, refuse, refuse_last, other, absent, token_read, taken, take_more, take_stops, take_ends}
 use Rattle.lv_parser.proofs.Fronts.{exit}
 use Rattle.lv_parser.proofs.Instead.{instead}
-use Rattle.lv_parser.proofs.StatementPaths.{carried, to_first, to_other, to_tail, no_tail, tail_refused, stmt_within, stmt_none, empty_first, not_empty, block_first, not_block, choice_first, not_choice, case_first, not_case, casez_first, not_casez, loop_first, not_loop, arms_first, first_refused, arms_more, arms_stop, arms_end}
+use Rattle.lv_parser.proofs.StatementPaths.{carried, to_first, to_other, branches_refused, else_next, no_else, stmt_within, stmt_none, empty_first, not_empty, block_first, not_block, choice_first, not_choice, case_first, not_case, casez_first, not_casez, loop_first, not_loop, arms_first, first_refused, arms_more, arms_stop, arms_end}
 use Rattle.lv_parser.proofs.statements.+statements.Goals as goal
 
 pub turns-returns-in_err-head-clause-answer : goal.turns-returns-in_err-head-clause-answer
@@ -71,20 +71,20 @@ block-returns-clause-answer t c = λ d h k.
     last w2 (c.in_ok-list.ensures.answer d h k)
 
 pub branches-returns-in_err-then-clause-answer : goal.branches-returns-in_err-then-clause-answer
-branches-returns-in_err-then-clause-answer t c = λ d h k. exit _ c.from_residual.ensures.1 (tail_refused (begin rules.branches c.args.at refl) (c.in_err-then.ensures.answer d h k))
+branches-returns-in_err-then-clause-answer t c = λ d h k. exit _ c.from_residual.ensures.1 (branches_refused (c.in_err-then.ensures.answer d h k))
 
 pub branches-returns-in_err-other-clause-answer : goal.branches-returns-in_err-other-clause-answer
 branches-returns-in_err-other-clause-answer t c = λ d h k.
-    let w = to_tail (begin rules.branches c.args.at refl) (c.in_ok-then.ensures.answer d h k) (sym c.is_word.ensures.answer ∙ c.if-is_word.true) in
+    let w = else_next (c.in_ok-then.ensures.answer d h k) (sym c.is_word.ensures.answer ∙ c.if-is_word.true) in
     exit _ c.from_residual-in_err-other.ensures.1 (refuse_last w (c.in_err-other.ensures.answer d h k))
 
 pub branches-returns-in_ok-other-clause-answer : goal.branches-returns-in_ok-other-clause-answer
 branches-returns-in_ok-other-clause-answer t c = λ d h k.
-    let w = to_tail (begin rules.branches c.args.at refl) (c.in_ok-then.ensures.answer d h k) (sym c.is_word.ensures.answer ∙ c.if-is_word.true) in
+    let w = else_next (c.in_ok-then.ensures.answer d h k) (sym c.is_word.ensures.answer ∙ c.if-is_word.true) in
     last w (c.in_ok-other.ensures.answer d h k)
 
 pub branches-returns-else-is_word-clause-answer : goal.branches-returns-else-is_word-clause-answer
-branches-returns-else-is_word-clause-answer t c = λ d h k. no_tail (begin rules.branches c.args.at refl) (c.in_ok-then.ensures.answer d h k) (sym c.is_word.ensures.answer ∙ c.if-is_word.false)
+branches-returns-else-is_word-clause-answer t c = λ d h k. no_else (c.in_ok-then.ensures.answer d h k) (sym c.is_word.ensures.answer ∙ c.if-is_word.false)
 
 pub choice-returns-in_err-open-clause-answer : goal.choice-returns-in_err-open-clause-answer
 choice-returns-in_err-open-clause-answer t c = λ d h k.

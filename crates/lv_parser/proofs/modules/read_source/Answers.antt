@@ -17,7 +17,7 @@ entries-init c = (
 pub returns-in_err-more : goal.returns-in_err-more
 returns-in_err-more c =
     exit_source c.args.tokens.now.text c.args.tokens.now.list _ _ c.from_residual-in_err-more.ensures.1
-    (source_stops c.args.tokens.now.text c.args.tokens.now.list _ c.entries.invariant.0 c.entries-test.true (c.in_err-more.ensures.answer limits refl refl refl))
+    (source_stops c.args.tokens.now.text c.args.tokens.now.list _ c.entries.invariant.0 (omega arith) (c.in_err-more.ensures.answer limits refl refl refl))
 
 pub entries-preserved : goal.entries-preserved
 entries-preserved c = (
@@ -26,4 +26,4 @@ entries-preserved c = (
 )
 
 pub returns : goal.returns
-returns c = source_ends c.args.tokens.now.text c.args.tokens.now.list c.entries.invariant.0 c.entries-test.false
+returns c = source_ends c.args.tokens.now.text c.args.tokens.now.list c.entries.invariant.0 (omega arith)

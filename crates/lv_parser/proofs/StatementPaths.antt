@@ -50,11 +50,11 @@ module _ {text : List ℕ} {tokens : List Token} {d : ℕ → Limit} where
 
   pub to_tail : {A B : Type 0} {g : Gram base A} {at : ℕ} {r : Rule} {p : Shape} {h : Gram base B} {us vs : ℕ} {build : base.RuleTree r × Option B → A} {x : base.RuleTree r} →
       Path text tokens d g at (tail r p h) us build → IsRead text tokens d (call r) us x vs → stands p (from text tokens vs) ≡ true → Path text tokens d g at h (vs + 1) (λ y. build (x, Some y))
-  to_tail {r = r} {p = p} {vs = vs} w q e = record { way = ways.to_tail (setting text d) w.way q.reads (next_of p text tokens vs e) }
+  to_tail {r = r} {p = p} {vs = vs} w q e = record { way = ways.to_tail r (setting text d) w.way q.reads (next_of p text tokens vs e) }
 
   pub no_tail : {A B : Type 0} {g : Gram base A} {at : ℕ} {r : Rule} {p : Shape} {h : Gram base B} {us vs : ℕ} {build : base.RuleTree r × Option B → A} {x : base.RuleTree r} →
       Path text tokens d g at (tail r p h) us build → IsRead text tokens d (call r) us x vs → stands p (from text tokens vs) ≡ false → IsRead text tokens d g at (build (x, None)) vs
-  no_tail {r = r} {p = p} {vs = vs} w q e = record { reads = ways.no_tail (setting text d) w.way q.reads (lacks_of p (from text tokens vs) e) }
+  no_tail {r = r} {p = p} {vs = vs} w q e = record { reads = ways.no_tail r (setting text d) w.way q.reads (lacks_of p (from text tokens vs) e) }
 
   pub tail_refused : {A B : Type 0} {g : Gram base A} {at : ℕ} {r : Rule} {p : Shape} {h : Gram base B} {us : ℕ} {build : base.RuleTree r × Option B → A} {e : SyntaxError} →
       Path text tokens d g at (tail r p h) us build → IsRefused text tokens d (call r) us e → IsRefused text tokens d g at e
@@ -62,8 +62,8 @@ module _ {text : List ℕ} {tokens : List Token} {d : ℕ → Limit} where
     where
       why : (e : SyntaxError) → Refuses text tokens d (call r) us e → Refuses text tokens d g at e
       why error.NoMemory q = tt
-      why (error.Syntax k) q = (q.0, ways.tail_stops (setting text d) w.way q.1)
-      why (error.Depth k) q = ways.tail_high (setting text d) w.way q
+      why (error.Syntax k) q = (q.0, ways.tail_stops r (setting text d) w.way q.1)
+      why (error.Depth k) q = ways.tail_high r (setting text d) w.way q
 
 -- ---- a rule
 
@@ -107,6 +107,33 @@ none_left {text} {tokens} {d} r n at z w a false e = record { why = (w, good.cal
 
 suc_of : (n : ℕ) → 0 < n → n ≡ suc (n - 1)
 suc_of n h = omega arith
+
+pub or_first : {v r : Bool} (a b : Bool) → v ≡ r → r ≡ true → r ≡ a → v ≡ (a || b)
+or_first true b e f g = e ∙ f
+or_first false b e f g = true_false _ f g
+
+pub or_second : {v r s : Bool} (a b : Bool) → v ≡ s → r ≡ false → r ≡ a → s ≡ b → v ≡ (a || b)
+or_second true b e f g h = true_false _ g f
+or_second false b e f g h = e ∙ h
+
+regrouped : (a b c d e f l : Bool) → (((a || (b || c)) || (d || e)) || (f || l)) ≡ (a || (b || (c || (d || (e || (f || l))))))
+regrouped true b c d e f l = refl
+regrouped false true c d e f l = refl
+regrouped false false true d e f l = refl
+regrouped false false false true e f l = refl
+regrouped false false false false e f l = refl
+
+-- what statements begin with, in groups
+pub stmt_leads_by : (ts : List Lexeme) (u v w : Bool) → u ≡ (stands (shapes.mark (codes ";")) ts || (stands (shapes.word (codes "begin")) ts || stands (shapes.word (codes "if")) ts)) →
+    v ≡ (u || (stands (shapes.word (codes "case")) ts || stands (shapes.word (codes "casez")) ts)) → w ≡ (v || (stands (shapes.word (codes "for")) ts || leads shapes.target ts)) → w ≡ leads shapes.stmt ts
+stmt_leads_by ts u v w x y z = z ∙ ap (λ b. b || (stands (shapes.word (codes "for")) ts || leads shapes.target ts)) (y ∙ ap (λ b. b || (stands (shapes.word (codes "case")) ts || stands (shapes.word (codes "casez")) ts)) x) ∙ same ts
+  where
+    same : (ts : List Lexeme) → (((stands (shapes.mark (codes ";")) ts || (stands (shapes.word (codes "begin")) ts || stands (shapes.word (codes "if")) ts)) || (stands (shapes.word (codes "case")) ts || stands (shapes.word (codes "casez")) ts)) ||
+        (stands (shapes.word (codes "for")) ts || leads shapes.target ts)) ≡ leads shapes.stmt ts
+    same [] = refl
+    same (t ∷ ts) =
+        regrouped (shapes.fits (shapes.mark (codes ";")) t) (shapes.fits (shapes.word (codes "begin")) t) (shapes.fits (shapes.word (codes "if")) t) (shapes.fits (shapes.word (codes "case")) t) (shapes.fits (shapes.word (codes "casez")) t)
+        (shapes.fits (shapes.word (codes "for")) t) (leads shapes.target (t ∷ ts))
 
 -- one statement more may nest
 pub stmt_within : (text : List ℕ) (tokens : List Token) (n : ℕ) (at : ℕ) (v : Result (Stmt × ℕ) SyntaxError) → 0 < n → AnswersStmts (n - 1) text tokens rules.stmt_rule at v → AnswersStmts n text tokens (call shapes.stmt) at v
@@ -170,6 +197,18 @@ module _ {text : List ℕ} {tokens : List Token} {d : ℕ → Limit} (at : ℕ) 
 
   pub not_loop : Path text tokens d rules.stmt_rule at from_loop at (λ y. y) → stands (shapes.word (codes "for")) (from text tokens at) ≡ false → Path text tokens d rules.stmt_rule at rules.assignment at (λ y. y)
   not_loop w e = to_other w (absent text tokens rules.loop at (shapes.word (codes "for")) refl e)
+
+-- ---- an if, and perhaps its else
+
+module _ {text : List ℕ} {tokens : List Token} {d : ℕ → Limit} where
+  pub branches_refused : {at : ℕ} {e : SyntaxError} → IsRefused text tokens d (call shapes.stmt) at e → IsRefused text tokens d rules.branches at e
+  branches_refused {at} q = tail_refused {r = shapes.stmt} {p = shapes.word (codes "else")} {h = call shapes.stmt} {us = at} {build = λ y. y} (begin rules.branches at refl) q
+
+  pub else_next : {at us : ℕ} {x : Stmt} → IsRead text tokens d (call shapes.stmt) at x us → stands (shapes.word (codes "else")) (from text tokens us) ≡ true → Path text tokens d rules.branches at (call shapes.stmt) (us + 1) (λ y. (x, Some y))
+  else_next {at} {us} {x} q e = to_tail {r = shapes.stmt} {p = shapes.word (codes "else")} {h = call shapes.stmt} {us = at} {build = λ y. y} {x = x} (begin rules.branches at refl) q e
+
+  pub no_else : {at us : ℕ} {x : Stmt} → IsRead text tokens d (call shapes.stmt) at x us → stands (shapes.word (codes "else")) (from text tokens us) ≡ false → IsRead text tokens d rules.branches at (x, None) us
+  no_else {at} {us} {x} q e = no_tail {r = shapes.stmt} {p = shapes.word (codes "else")} {h = call shapes.stmt} {us = at} {build = λ y. y} {x = x} (begin rules.branches at refl) q e
 
 -- ---- assignments
 

@@ -1,16 +1,18 @@
 //! Statements (IEEE 1364-2005, annex A.6).
 
-ghost use Rattle.std.specs.Prelude.{◌≡◌, ◌+◌, ◌<◌, ◌≤◌, length, IfOk, MatchResult};
+ghost use Rattle.std.specs.Prelude.{◌≡◌, ◌+◌, ◌<◌, ◌≤◌, ◌||◌, codes, length, IfOk};
 ghost use Rattle.lv_ast.specs.declared.stmt.Stmt.TheVariants as stmt;
 ghost use Rattle.lv_viable.specs.Grammar.{call};
+ghost use Rattle.lv_parser.specs.Shapes.{stands};
 ghost use Rattle.lv_parser.specs.Shapes as shapes;
 ghost use Rattle.lv_parser.specs.Rules as rules;
 ghost use Rattle.lv_parser.specs.Answers.{from, leads, Answers, AnswersTargets, AnswersStmts, AnswersSome, token_result, GoesOn, Stays};
 
 use crate::exprs::{label, value};
-use crate::targets::{LIMIT, refused, target};
-use crate::tokens::{boxed, ident, is_mark, is_name, is_word, mark, place, push, word};
+use crate::targets::{LIMIT, begins_target, refused, target};
+use crate::tokens::{boxed, ident, is_mark, is_word, mark, place, push, word};
 use lv_ast::{Arm, Expr, Ident, Stmt, Tokens};
+use lv_bits::NoMemory;
 use lv_exprs::SyntaxError;
 use sqlite_items::Items;
 use std::alloc::Global;
@@ -161,8 +163,8 @@ fn choice_of(
     test: Expr,
     then: Stmt,
     other: Option<Stmt>,
-) -> Result<Stmt, SyntaxError>
-    ensures { MatchResult result (λ s. s ≡ stmt.If test then other) (λ e. e ≡ SyntaxError.NoMemory) }
+) -> Result<Stmt, NoMemory>
+    ensures { IfOk result (λ s. s ≡ stmt.If test then other) }
 {
     let then = boxed(alloc, then)?;
     match other {
@@ -396,17 +398,32 @@ fn stmt_body(
     }
 }
 
+/// Whether a block or an `if` begins there.
+fn begins_group(tokens: &Tokens, at: usize) -> bool
+    ensures { result ≡ (stands (shapes.word (codes "begin")) (from tokens.now.text tokens.now.list at) || stands (shapes.word (codes "if")) (from tokens.now.text tokens.now.list at)) }
+{
+    is_word(tokens, at, b"begin") || is_word(tokens, at, b"if")
+}
+
+fn begins_cases(tokens: &Tokens, at: usize) -> bool
+    ensures { result ≡ (stands (shapes.word (codes "case")) (from tokens.now.text tokens.now.list at) || stands (shapes.word (codes "casez")) (from tokens.now.text tokens.now.list at)) }
+{
+    is_word(tokens, at, b"case") || is_word(tokens, at, b"casez")
+}
+
+fn begins_simple(tokens: &Tokens, at: usize) -> bool
+    ensures { result ≡ (stands (shapes.word (codes "for")) (from tokens.now.text tokens.now.list at) || leads shapes.target (from tokens.now.text tokens.now.list at)) }
+{
+    is_word(tokens, at, b"for") || begins_target(tokens, at)
+}
+
 fn begins_stmt(tokens: &Tokens, at: usize) -> bool
     ensures { result ≡ leads shapes.stmt (from tokens.now.text tokens.now.list at) }
 {
     is_mark(tokens, at, b";")
-        || is_word(tokens, at, b"begin")
-        || is_word(tokens, at, b"if")
-        || is_word(tokens, at, b"case")
-        || is_word(tokens, at, b"casez")
-        || is_word(tokens, at, b"for")
-        || is_name(tokens, at)
-        || is_mark(tokens, at, b"{")
+        || begins_group(tokens, at)
+        || begins_cases(tokens, at)
+        || begins_simple(tokens, at)
 }
 
 /// A statement, where so many may nest with itself.

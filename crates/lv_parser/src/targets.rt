@@ -27,7 +27,7 @@ pub fn refused(begins: bool, at: usize) -> SyntaxError
     }
 }
 
-fn begins_target(tokens: &Tokens, at: usize) -> bool
+pub fn begins_target(tokens: &Tokens, at: usize) -> bool
     ensures { result ≡ leads shapes.target (from tokens.now.text tokens.now.list at) }
 {
     is_name(tokens, at) || is_mark(tokens, at, b"{")

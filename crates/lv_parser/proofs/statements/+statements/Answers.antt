@@ -1,11 +1,12 @@
-use Rattle.std.proofs.Common.{refl, sym, ◌∙◌, subst, arith, codes}
+use Rattle.std.proofs.Common.{refl, sym, ◌∙◌, ap, arith, codes}
+use Rattle.lv_ast.specs.declared.stmt.Stmt.TheVariants as stmt
 use Rattle.lv_viable.specs.Grammar.{call}
 use Rattle.lv_parser.specs.Shapes as shapes
 use Rattle.lv_parser.specs.Rules as rules
-use Rattle.lv_parser.specs.Answers.{IsRefused}
-use Rattle.lv_parser.proofs.Paths.{begin, through, then, last, refuse, refuse_last, no_room, other, absent, token_read, taken, take_more, take_stops, take_ends}
+use Rattle.lv_parser.proofs.Paths.{begin, through, then, last, refuse, refuse_last, other, absent, token_read, taken, take_more, take_stops, take_ends}
 use Rattle.lv_parser.proofs.Fronts.{exit}
-use Rattle.lv_parser.proofs.StatementPaths.{carried, to_first, to_other, to_tail, no_tail, tail_refused, stmt_within, stmt_none, empty_first, not_empty, block_first, not_block, choice_first, not_choice, case_first, not_case, casez_first, not_casez, loop_first, not_loop, arms_first, first_refused, arms_more, arms_stop, arms_end}
+use Rattle.lv_parser.proofs.Instead.{instead}
+use Rattle.lv_parser.proofs.StatementPaths.{carried, to_first, to_other, branches_refused, else_next, no_else, stmt_within, stmt_none, empty_first, not_empty, block_first, not_block, choice_first, not_choice, case_first, not_case, casez_first, not_casez, loop_first, not_loop, arms_first, first_refused, arms_more, arms_stop, arms_end}
 use Rattle.lv_parser.proofs.statements.+statements.Goals as goal
 
 pub turns-returns-in_err-head-clause-answer : goal.turns-returns-in_err-head-clause-answer
@@ -23,7 +24,8 @@ pub turns-returns-clause-answer : goal.turns-returns-clause-answer
 turns-returns-clause-answer t c = λ d h k.
     let w0 = through (begin rules.loop c.args.at refl) in
     let w1 = then w0 (c.in_ok-head.ensures.answer d) in
-    rw c.in_ok-body-2.ensures (last w1 (c.in_ok-body.ensures.answer d h k))
+    let h0 = c.in_ok-head.head in
+    instead (ap (λ b. stmt.Loop h0.index h0.start h0.test h0.again h0.next b) c.in_ok-body-2.ensures) (last w1 (c.in_ok-body.ensures.answer d h k))
 
 pub stmts_to_end-entries-init : goal.stmts_to_end-entries-init
 stmts_to_end-entries-init t c = (λ d h k. taken (call shapes.stmt) (shapes.word (codes "end")) c.args.at c.new-list.ensures, omega arith, c.requires)
@@ -69,20 +71,20 @@ block-returns-clause-answer t c = λ d h k.
     last w2 (c.in_ok-list.ensures.answer d h k)
 
 pub branches-returns-in_err-then-clause-answer : goal.branches-returns-in_err-then-clause-answer
-branches-returns-in_err-then-clause-answer t c = λ d h k. exit _ c.from_residual.ensures.1 (tail_refused (begin rules.branches c.args.at refl) (c.in_err-then.ensures.answer d h k))
+branches-returns-in_err-then-clause-answer t c = λ d h k. exit _ c.from_residual.ensures.1 (branches_refused (c.in_err-then.ensures.answer d h k))
 
 pub branches-returns-in_err-other-clause-answer : goal.branches-returns-in_err-other-clause-answer
 branches-returns-in_err-other-clause-answer t c = λ d h k.
-    let w = to_tail (begin rules.branches c.args.at refl) (c.in_ok-then.ensures.answer d h k) (sym c.is_word.ensures.answer ∙ c.if-is_word.true) in
+    let w = else_next (c.in_ok-then.ensures.answer d h k) (sym c.is_word.ensures.answer ∙ c.if-is_word.true) in
     exit _ c.from_residual-in_err-other.ensures.1 (refuse_last w (c.in_err-other.ensures.answer d h k))
 
 pub branches-returns-in_ok-other-clause-answer : goal.branches-returns-in_ok-other-clause-answer
 branches-returns-in_ok-other-clause-answer t c = λ d h k.
-    let w = to_tail (begin rules.branches c.args.at refl) (c.in_ok-then.ensures.answer d h k) (sym c.is_word.ensures.answer ∙ c.if-is_word.true) in
+    let w = else_next (c.in_ok-then.ensures.answer d h k) (sym c.is_word.ensures.answer ∙ c.if-is_word.true) in
     last w (c.in_ok-other.ensures.answer d h k)
 
 pub branches-returns-else-is_word-clause-answer : goal.branches-returns-else-is_word-clause-answer
-branches-returns-else-is_word-clause-answer t c = λ d h k. no_tail (begin rules.branches c.args.at refl) (c.in_ok-then.ensures.answer d h k) (sym c.is_word.ensures.answer ∙ c.if-is_word.false)
+branches-returns-else-is_word-clause-answer t c = λ d h k. no_else (c.in_ok-then.ensures.answer d h k) (sym c.is_word.ensures.answer ∙ c.if-is_word.false)
 
 pub choice-returns-in_err-open-clause-answer : goal.choice-returns-in_err-open-clause-answer
 choice-returns-in_err-open-clause-answer t c = λ d h k.
@@ -126,10 +128,7 @@ choice-returns-clause-answer t c = λ d h k.
     let w2 = then w1 (c.in_ok-inner.ensures.answer d) in
     let w3 = then w2 (c.in_ok-test.ensures.answer d) in
     let w4 = then w3 (c.in_ok-first.ensures.answer d) in
-    rw c.in_ok-made.ensures (last w4 (c.in_ok-then.ensures.answer d h k))
-
-pub choice-returns-in_err-made-clause-answer : goal.choice-returns-in_err-made-clause-answer
-choice-returns-in_err-made-clause-answer t c = λ d h k. exit _ c.from_residual-in_err-made.ensures.1 (subst (λ e. IsRefused c.args.tokens.now.text c.args.tokens.now.list d rules.choice c.args.at e) (sym c.in_err-made.ensures) no_room)
+    instead c.in_ok-made.ensures (last w4 (c.in_ok-then.ensures.answer d h k))
 
 pub default_arm-returns-in_err-first-clause-answer : goal.default_arm-returns-in_err-first-clause-answer
 default_arm-returns-in_err-first-clause-answer t c = λ d h k.
@@ -146,7 +145,7 @@ pub default_arm-returns-clause-answer : goal.default_arm-returns-clause-answer
 default_arm-returns-clause-answer t c = λ d h k.
     let w0 = through (begin rules.default_arm c.args.at refl) in
     let w1 = then w0 ((c.in_ok-first.ensures.answer d).1) in
-    rw c.new-labels.ensures (last w1 (c.in_ok-body.ensures.answer d h k))
+    instead (ap (λ ls. record { labels = ls; body = c.in_ok-body.body }) c.new-labels.ensures) (last w1 (c.in_ok-body.ensures.answer d h k))
 
 pub labelled_arm-returns-in_err-labels-clause-answer : goal.labelled_arm-returns-in_err-labels-clause-answer
 labelled_arm-returns-in_err-labels-clause-answer t c = λ d h k.
@@ -175,12 +174,12 @@ labelled_arm-returns-clause-answer t c = λ d h k.
 
 pub arm-returns-then-is_word-clause-answer : goal.arm-returns-then-is_word-clause-answer
 arm-returns-then-is_word-clause-answer t c = λ d h k.
-    carried _ (to_first (begin (rules.arm c.args.wild) c.args.at refl) (other c.args.tokens.now.text c.args.tokens.now.list (rules.labelled_arm c.args.wild) c.args.at (shapes.word (codes "default")) refl (sym c.is_word.ensures.answer ∙ c.if-is_word.true)))
+    carried c.default_arm.result (to_first (begin (rules.arm c.args.wild) c.args.at refl) (other c.args.tokens.now.text c.args.tokens.now.list (rules.labelled_arm c.args.wild) c.args.at (shapes.word (codes "default")) refl (sym c.is_word.ensures.answer ∙ c.if-is_word.true)))
     (c.default_arm.ensures.answer d h k)
 
 pub arm-returns-else-is_word-clause-answer : goal.arm-returns-else-is_word-clause-answer
 arm-returns-else-is_word-clause-answer t c = λ d h k.
-    carried _ (to_other (begin (rules.arm c.args.wild) c.args.at refl) (absent c.args.tokens.now.text c.args.tokens.now.list rules.default_arm c.args.at (shapes.word (codes "default")) refl (sym c.is_word.ensures.answer ∙ c.if-is_word.false)))
+    carried c.labelled_arm.result (to_other (begin (rules.arm c.args.wild) c.args.at refl) (absent c.args.tokens.now.text c.args.tokens.now.list rules.default_arm c.args.at (shapes.word (codes "default")) refl (sym c.is_word.ensures.answer ∙ c.if-is_word.false)))
     (c.labelled_arm.ensures.answer d h k)
 
 pub arms-returns-in_err-first-clause-answer : goal.arms-returns-in_err-first-clause-answer
@@ -254,47 +253,47 @@ stmt_body-returns-then-is_mark-clause-answer t c = λ d h k.
 pub stmt_body-returns-then-is_word-clause-answer : goal.stmt_body-returns-then-is_word-clause-answer
 stmt_body-returns-then-is_word-clause-answer t c = λ d h k.
     let w0 = not_empty c.args.at (sym c.is_mark.ensures.answer ∙ c.if-is_mark.false) in
-    carried _ (block_first c.args.at w0 (sym c.is_word.ensures.answer ∙ c.if-is_word.true)) (c.block.ensures.answer d h k)
+    carried c.block.result (block_first c.args.at w0 (sym c.is_word.ensures.answer ∙ c.if-is_word.true)) (c.block.ensures.answer d h k)
 
 pub stmt_body-returns-then-is_word-2-clause-answer : goal.stmt_body-returns-then-is_word-2-clause-answer
 stmt_body-returns-then-is_word-2-clause-answer t c = λ d h k.
     let w0 = not_empty c.args.at (sym c.is_mark.ensures.answer ∙ c.if-is_mark.false) in
     let w1 = not_block c.args.at w0 (sym c.is_word.ensures.answer ∙ c.if-is_word.false) in
-    carried _ (choice_first c.args.at w1 (sym c.is_word-2.ensures.answer ∙ c.if-is_word-2.true)) (c.choice.ensures.answer d h k)
+    carried c.choice.result (choice_first c.args.at w1 (sym c.is_word-else-is_word.ensures.answer ∙ c.if-is_word-2.true)) (c.choice.ensures.answer d h k)
 
 pub stmt_body-returns-then-is_word-3-clause-answer : goal.stmt_body-returns-then-is_word-3-clause-answer
 stmt_body-returns-then-is_word-3-clause-answer t c = λ d h k.
     let w0 = not_empty c.args.at (sym c.is_mark.ensures.answer ∙ c.if-is_mark.false) in
     let w1 = not_block c.args.at w0 (sym c.is_word.ensures.answer ∙ c.if-is_word.false) in
-    let w2 = not_choice c.args.at w1 (sym c.is_word-2.ensures.answer ∙ c.if-is_word-2.false) in
-    carried _ (case_first c.args.at w2 (sym c.is_word-3.ensures.answer ∙ c.if-is_word-3.true)) (c.cases.ensures.answer d h k)
+    let w2 = not_choice c.args.at w1 (sym c.is_word-else-is_word.ensures.answer ∙ c.if-is_word-2.false) in
+    carried c.cases.result (case_first c.args.at w2 (sym c.is_word-else-is_word-2.ensures.answer ∙ c.if-is_word-3.true)) (c.cases.ensures.answer d h k)
 
 pub stmt_body-returns-then-is_word-4-clause-answer : goal.stmt_body-returns-then-is_word-4-clause-answer
 stmt_body-returns-then-is_word-4-clause-answer t c = λ d h k.
     let w0 = not_empty c.args.at (sym c.is_mark.ensures.answer ∙ c.if-is_mark.false) in
     let w1 = not_block c.args.at w0 (sym c.is_word.ensures.answer ∙ c.if-is_word.false) in
-    let w2 = not_choice c.args.at w1 (sym c.is_word-2.ensures.answer ∙ c.if-is_word-2.false) in
-    let w3 = not_case c.args.at w2 (sym c.is_word-3.ensures.answer ∙ c.if-is_word-3.false) in
-    carried _ (casez_first c.args.at w3 (sym c.is_word-4.ensures.answer ∙ c.if-is_word-4.true)) (c.cases-2.ensures.answer d h k)
+    let w2 = not_choice c.args.at w1 (sym c.is_word-else-is_word.ensures.answer ∙ c.if-is_word-2.false) in
+    let w3 = not_case c.args.at w2 (sym c.is_word-else-is_word-2.ensures.answer ∙ c.if-is_word-3.false) in
+    carried c.cases-then-is_word-4.result (casez_first c.args.at w3 (sym c.is_word-else-is_word-3.ensures.answer ∙ c.if-is_word-4.true)) (c.cases-then-is_word-4.ensures.answer d h k)
 
 pub stmt_body-returns-then-is_word-5-clause-answer : goal.stmt_body-returns-then-is_word-5-clause-answer
 stmt_body-returns-then-is_word-5-clause-answer t c = λ d h k.
     let w0 = not_empty c.args.at (sym c.is_mark.ensures.answer ∙ c.if-is_mark.false) in
     let w1 = not_block c.args.at w0 (sym c.is_word.ensures.answer ∙ c.if-is_word.false) in
-    let w2 = not_choice c.args.at w1 (sym c.is_word-2.ensures.answer ∙ c.if-is_word-2.false) in
-    let w3 = not_case c.args.at w2 (sym c.is_word-3.ensures.answer ∙ c.if-is_word-3.false) in
-    let w4 = not_casez c.args.at w3 (sym c.is_word-4.ensures.answer ∙ c.if-is_word-4.false) in
-    carried _ (loop_first c.args.at w4 (sym c.is_word-5.ensures.answer ∙ c.if-is_word-5.true)) (c.turns.ensures.answer d h k)
+    let w2 = not_choice c.args.at w1 (sym c.is_word-else-is_word.ensures.answer ∙ c.if-is_word-2.false) in
+    let w3 = not_case c.args.at w2 (sym c.is_word-else-is_word-2.ensures.answer ∙ c.if-is_word-3.false) in
+    let w4 = not_casez c.args.at w3 (sym c.is_word-else-is_word-3.ensures.answer ∙ c.if-is_word-4.false) in
+    carried c.turns.result (loop_first c.args.at w4 (sym c.is_word-else-is_word-4.ensures.answer ∙ c.if-is_word-5.true)) (c.turns.ensures.answer d h k)
 
 pub stmt_body-returns-else-is_word-5-clause-answer : goal.stmt_body-returns-else-is_word-5-clause-answer
 stmt_body-returns-else-is_word-5-clause-answer t c = λ d h k.
     let w0 = not_empty c.args.at (sym c.is_mark.ensures.answer ∙ c.if-is_mark.false) in
     let w1 = not_block c.args.at w0 (sym c.is_word.ensures.answer ∙ c.if-is_word.false) in
-    let w2 = not_choice c.args.at w1 (sym c.is_word-2.ensures.answer ∙ c.if-is_word-2.false) in
-    let w3 = not_case c.args.at w2 (sym c.is_word-3.ensures.answer ∙ c.if-is_word-3.false) in
-    let w4 = not_casez c.args.at w3 (sym c.is_word-4.ensures.answer ∙ c.if-is_word-4.false) in
-    let w5 = not_loop c.args.at w4 (sym c.is_word-5.ensures.answer ∙ c.if-is_word-5.false) in
-    carried _ w5 (c.assignment.ensures.answer d h)
+    let w2 = not_choice c.args.at w1 (sym c.is_word-else-is_word.ensures.answer ∙ c.if-is_word-2.false) in
+    let w3 = not_case c.args.at w2 (sym c.is_word-else-is_word-2.ensures.answer ∙ c.if-is_word-3.false) in
+    let w4 = not_casez c.args.at w3 (sym c.is_word-else-is_word-3.ensures.answer ∙ c.if-is_word-4.false) in
+    let w5 = not_loop c.args.at w4 (sym c.is_word-else-is_word-4.ensures.answer ∙ c.if-is_word-5.false) in
+    carried c.assignment.result w5 (c.assignment.ensures.answer d h)
 
 pub stmt-returns-then-left-eq0-clause-answer : goal.stmt-returns-then-left-eq0-clause-answer
 stmt-returns-then-left-eq0-clause-answer t c = stmt_none c.args.tokens.now.text c.args.tokens.now.list c.args.left c.args.at c.begins_stmt.result c.refused.result c.if-left-eq0.true c.requires c.begins_stmt.ensures c.refused.ensures

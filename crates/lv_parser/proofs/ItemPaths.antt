@@ -7,11 +7,13 @@ use Rattle.lv_exprs.specs.declared.error.SyntaxError.TheVariants as error
 use Rattle.lv_viable.specs.Grammar.{Gram, call, until}
 use Rattle.lv_viable.specs.Spelling.{Limit, most, allows, lowered, inside}
 use Rattle.lv_viable.specs.Sets.{is_good, apart, these, first}
+use Rattle.lv_parser.specs.Lexemes.{Lexeme}
 use Rattle.lv_parser.specs.Shapes.{base, table, stands}
 use Rattle.lv_parser.specs.Shapes as shapes
 use Rattle.lv_parser.specs.Rules as rules
 use Rattle.lv_parser.specs.Answers.{from, leads, IsRefused, AnswersItems}
 use Rattle.lv_parser.specs.Paths.{Path}
+use Rattle.lv_parser.proofs.Fronts.{leads_is}
 use Rattle.lv_parser.proofs.Paths.{begin, other, absent}
 use Rattle.lv_parser.proofs.Directions.{direction_other, direction_absent}
 use Rattle.lv_parser.proofs.StatementPaths.{to_first, to_other, ruled, none_left}
@@ -35,6 +37,31 @@ pub block_item_none : (text : List ℕ) (tokens : List Token) (n : ℕ) (at : �
     AnswersItems n text tokens (call shapes.block_item) at (Err e)
 block_item_none text tokens n at b e z w l q = λ d f g h.
     subst (λ x. IsRefused text tokens d (call shapes.block_item) at x) (sym q) (none_left shapes.block_item 2 at refl w (ap allows (h ∙ ap most z)) b l)
+
+-- ---- what begins an item of a block
+
+abbrev word_stands : List ℕ → List Lexeme → Bool
+word_stands s ts = stands (shapes.word s) ts
+
+joined : (w r i g l a y f n : Bool) → ((w || r || i || g || l) || (a || y || f) || n) ≡ (w || (r || (i || (g || (l || (a || (y || (f || (n || false)))))))))
+joined true r i g l a y f n = refl
+joined false true i g l a y f n = refl
+joined false false true g l a y f n = refl
+joined false false false true l a y f n = refl
+joined false false false false true a y f n = refl
+joined false false false false false true y f n = refl
+joined false false false false false false true f n = refl
+joined false false false false false false false true n = refl
+joined false false false false false false false false true = refl
+joined false false false false false false false false false = refl
+
+-- the tests in groups say whether one begins there
+pub begins_by : (b : Bool) (ts : List Lexeme) →
+    b ≡ ((word_stands (codes "wire") ts || word_stands (codes "reg") ts || word_stands (codes "integer") ts || word_stands (codes "genvar") ts || word_stands (codes "localparam") ts) ||
+    (word_stands (codes "assign") ts || word_stands (codes "always") ts || word_stands (codes "for") ts) || stands shapes.name ts) → b ≡ leads shapes.block_item ts
+begins_by b ts e =
+    e ∙ joined (word_stands (codes "wire") ts) (word_stands (codes "reg") ts) (word_stands (codes "integer") ts) (word_stands (codes "genvar") ts) (word_stands (codes "localparam") ts) (word_stands (codes "assign") ts) (word_stands (codes "always") ts) (word_stands (codes "for") ts) (stands shapes.name ts) ∙
+    sym (leads_is shapes.block_item ts)
 
 -- ---- the items of a block, up to the keyword that ends it
 

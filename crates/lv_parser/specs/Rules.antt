@@ -513,11 +513,17 @@ generate_item p = item.Generate p.1
 abbrev pub generate : G Item
 generate = act generate_item (both (word (codes "generate")) (block_items (block_end false)))
 
-abbrev pub loop_item : Head × (Lexeme × (Lexeme × (Ident × List Item))) → Item
-loop_item p = item.Loop p.0.index p.0.start p.0.test p.0.again p.0.next p.1.1.1.0 p.1.1.1.1
+abbrev pub named_block_of : Lexeme × (Lexeme × (Ident × List Item)) → Ident × List Item
+named_block_of p = p.1.1
+
+abbrev pub named_block : G (Ident × List Item)
+named_block = act named_block_of (both (word (codes "begin")) (both colon (both ident (block_items (block_end true)))))
+
+abbrev pub loop_item : Head × (Ident × List Item) → Item
+loop_item p = item.Loop p.0.index p.0.start p.0.test p.0.again p.0.next p.1.0 p.1.1
 
 abbrev pub generate_loop : G Item
-generate_loop = act loop_item (both loop_head (both (word (codes "begin")) (both colon (both ident (block_items (block_end true))))))
+generate_loop = act loop_item (both loop_head named_block)
 
 abbrev pub block_item_rule : G Item
 block_item_rule =

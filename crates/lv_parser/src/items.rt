@@ -1,6 +1,6 @@
 //! Items of modules and of generate blocks (IEEE 1364-2005, annexes A.1.4 and A.4.2).
 
-ghost use Rattle.std.specs.Prelude.{◌≡◌, ◌≤◌, ◌<◌, ◌^◌, length, IfOk, IsTrue};
+ghost use Rattle.std.specs.Prelude.{◌≡◌, ◌≤◌, ◌<◌, ◌^◌, ◌||◌, codes, length, IfOk, IsTrue};
 ghost use Rattle.lv_viable.specs.Grammar.{call};
 ghost use Rattle.lv_parser.specs.Shapes.{stands};
 ghost use Rattle.lv_parser.specs.Shapes as shapes;
@@ -13,7 +13,7 @@ use crate::exprs::value;
 use crate::statements::{Head, loop_head, stmt};
 use crate::targets::{LIMIT, refused, target};
 use crate::tokens::{ident, is_mark, is_name, is_word, mark, place, push, word};
-use lv_ast::{Continuous, Item, Tokens, Watch};
+use lv_ast::{Continuous, Ident, Item, Tokens, Watch};
 use lv_exprs::SyntaxError;
 use sqlite_items::Items;
 use std::alloc::Global;
@@ -172,6 +172,38 @@ fn generate(
     Ok((Item::Generate(list), end))
 }
 
+/// The items of a loop, with their name.
+#[cycle(items)]
+fn named_block(
+    alloc: Global,
+    tokens: &Tokens,
+    at: usize,
+    left: u32,
+) -> Result<((Ident, Items<Item>), usize), SyntaxError>
+    requires { at ≤ length tokens.now.list }
+    ensures answer { AnswersItems left tokens.now.text tokens.now.list rules.named_block at result }
+    ensures ahead { IfOk result (λ r. GoesOn tokens.now.list at r) }
+{
+    let colon = word(tokens, at, b"begin")?;
+    let name = mark(tokens, colon, b":")?;
+    let (label, first) = ident(alloc, tokens, name)?;
+    let (list, end) = block_items(alloc, tokens, first, left, true)?;
+    Ok(((label, list), end))
+}
+
+fn loop_of(head: Head, label: Ident, list: Items<Item>) -> Item
+    ensures { result ≡ rules.loop_item (head, (label, list)) }
+{
+    let Head {
+        index,
+        start,
+        test,
+        again,
+        next,
+    } = head;
+    Item::Loop(index, start, test, again, next, label, list)
+}
+
 #[cycle(items)]
 fn generate_loop(
     alloc: Global,
@@ -184,21 +216,8 @@ fn generate_loop(
     ensures ahead { IfOk result (λ r. GoesOn tokens.now.list at r) }
 {
     let (head, begin) = loop_head(alloc, tokens, at)?;
-    let colon = word(tokens, begin, b"begin")?;
-    let name = mark(tokens, colon, b":")?;
-    let (label, first) = ident(alloc, tokens, name)?;
-    let (list, end) = block_items(alloc, tokens, first, left, true)?;
-    let Head {
-        index,
-        start,
-        test,
-        again,
-        next,
-    } = head;
-    Ok((
-        Item::Loop(index, start, test, again, next, label, list),
-        end,
-    ))
+    let ((label, list), end) = named_block(alloc, tokens, begin, left)?;
+    Ok((loop_of(head, label, list), end))
 }
 
 /// An item in which so many may nest.
@@ -234,18 +253,32 @@ fn block_item_body(
     }
 }
 
+/// Whether a net or a variable is declared there.
+fn begins_variable(tokens: &Tokens, at: usize) -> bool
+    ensures { result ≡ (stands (shapes.word (codes "wire")) (from tokens.now.text tokens.now.list at) || stands (shapes.word (codes "reg")) (from tokens.now.text tokens.now.list at) || stands (shapes.word (codes "integer")) (from tokens.now.text tokens.now.list at)) }
+{
+    is_word(tokens, at, b"wire") || is_word(tokens, at, b"reg") || is_word(tokens, at, b"integer")
+}
+
+fn begins_declaration(tokens: &Tokens, at: usize) -> bool
+    ensures { result ≡ (stands (shapes.word (codes "wire")) (from tokens.now.text tokens.now.list at) || stands (shapes.word (codes "reg")) (from tokens.now.text tokens.now.list at) || stands (shapes.word (codes "integer")) (from tokens.now.text tokens.now.list at) || stands (shapes.word (codes "genvar")) (from tokens.now.text tokens.now.list at) || stands (shapes.word (codes "localparam")) (from tokens.now.text tokens.now.list at)) }
+{
+    begins_variable(tokens, at)
+        || is_word(tokens, at, b"genvar")
+        || is_word(tokens, at, b"localparam")
+}
+
+/// Whether an assignment, a process or a loop begins there.
+fn begins_process(tokens: &Tokens, at: usize) -> bool
+    ensures { result ≡ (stands (shapes.word (codes "assign")) (from tokens.now.text tokens.now.list at) || stands (shapes.word (codes "always")) (from tokens.now.text tokens.now.list at) || stands (shapes.word (codes "for")) (from tokens.now.text tokens.now.list at)) }
+{
+    is_word(tokens, at, b"assign") || is_word(tokens, at, b"always") || is_word(tokens, at, b"for")
+}
+
 fn begins_block_item(tokens: &Tokens, at: usize) -> bool
     ensures { result ≡ leads shapes.block_item (from tokens.now.text tokens.now.list at) }
 {
-    is_word(tokens, at, b"wire")
-        || is_word(tokens, at, b"reg")
-        || is_word(tokens, at, b"integer")
-        || is_word(tokens, at, b"genvar")
-        || is_word(tokens, at, b"localparam")
-        || is_word(tokens, at, b"assign")
-        || is_word(tokens, at, b"always")
-        || is_word(tokens, at, b"for")
-        || is_name(tokens, at)
+    begins_declaration(tokens, at) || begins_process(tokens, at) || is_name(tokens, at)
 }
 
 /// An item of a generate block, where so many may nest with itself.

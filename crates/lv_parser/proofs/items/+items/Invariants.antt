@@ -7,16 +7,19 @@ use Rattle.lv_parser.specs.Paths.{Taken}
 use Rattle.lv_parser.proofs.items.+items.Given as goal
 
 abbrev pub decreases-block_item : goal.decreases-block_item
-decreases-block_item l = 4 * l.left
+decreases-block_item l = 5 * l.left
 
 abbrev pub decreases-block_items : goal.decreases-block_items
-decreases-block_items l = 4 * l.left + 1
+decreases-block_items l = 5 * l.left + 1
+
+abbrev pub decreases-named_block : goal.decreases-named_block
+decreases-named_block l = 5 * l.left + 2
 
 abbrev pub decreases-generate_loop : goal.decreases-generate_loop
-decreases-generate_loop l = 4 * l.left + 2
+decreases-generate_loop l = 5 * l.left + 3
 
 abbrev pub decreases-block_item_body : goal.decreases-block_item_body
-decreases-block_item_body l = 4 * l.left + 3
+decreases-block_item_body l = 5 * l.left + 4
 
 abbrev pub invariant-block_items-entries : goal.invariant-block_items-entries
 invariant-block_items-entries l =

@@ -158,12 +158,7 @@ fn branches(
     }
 }
 
-fn choice_of(
-    alloc: Global,
-    test: Expr,
-    then: Stmt,
-    other: Option<Stmt>,
-) -> Result<Stmt, NoMemory>
+fn choice_of(alloc: Global, test: Expr, then: Stmt, other: Option<Stmt>) -> Result<Stmt, NoMemory>
     ensures { IfOk result (λ s. s ≡ stmt.If test then other) }
 {
     let then = boxed(alloc, then)?;

@@ -1,7 +1,11 @@
-//! Tests of reading a text: its tokens, its directives and its expressions.
+//! Tests of reading a text: its tokens, its directives, its expressions and its grammar.
 #![tactic(auto)]
 
 #[cfg(test)]
 mod expressions;
+#[cfg(test)]
+mod rows;
+#[cfg(test)]
+mod shapes;
 #[cfg(test)]
 mod tokens;

@@ -1,0 +1,269 @@
+-- How statements are read.
+use Rattle.std.proofs.Common.{◌≡◌, ℕ, zero, suc, ◌+◌, ◌-◌, ◌<◌, ◌≤◌, List, [], ◌∷◌, ◌++◌, length, Bool, true, false, ◌||◌, ◌&&◌, cond, Option, Some, None, Result, Ok, Err, MatchResult, ◌⊎◌, inl, inr, refl, sym, ◌∙◌, ap, subst, arith, codes}
+use Rattle.std.specs.Result.{IsErrAnd}
+use Rattle.lv_ast.specs.declared.tokens.Token.{Token}
+use Rattle.lv_ast.specs.declared.expr.Expr.{Expr}
+use Rattle.lv_ast.specs.declared.stmt.Target.{Target}
+use Rattle.lv_ast.specs.declared.stmt.Stmt.{Stmt}
+use Rattle.lv_ast.specs.declared.stmt.Stmt.TheVariants as stmt
+use Rattle.lv_ast.specs.declared.stmt.Arm.{Arm}
+use Rattle.lv_exprs.specs.declared.error.SyntaxError.{SyntaxError}
+use Rattle.lv_exprs.specs.declared.error.SyntaxError.TheVariants as error
+use Rattle.lv_viable.specs.Grammar.{Gram, OneOf, left, right, one, call, act, both, either, until, tail}
+use Rattle.lv_viable.specs.Spelling.{Limit, most, allows, lowered, inside}
+use Rattle.lv_viable.specs.Sets as viable
+use Rattle.lv_viable.specs.Sets.{some_of, all_of, among, is_in, is_good, these, first, apart}
+use Rattle.lv_viable.specs.Nexts.{Outside, Opens}
+use Rattle.lv_viable.proofs.Good as good
+use Rattle.lv_viable.proofs.Ways as ways
+use Rattle.lv_viable.proofs.Lists.{true_false, and_left, and_right}
+use Rattle.lv_parser.specs.Lexemes.{Lexeme, head, place_of}
+use Rattle.lv_parser.specs.Shapes.{Shape, Rule, base, table, stands, rule_leads}
+use Rattle.lv_parser.specs.Shapes as shapes
+use Rattle.lv_parser.specs.Leaves.{all, within, limits}
+use Rattle.lv_parser.specs.Rules as rules
+use Rattle.lv_parser.specs.Answers.{from, leads, placed, IsRead, Refuses, IsRefused, Answer, AnswersStmts}
+use Rattle.lv_parser.specs.Paths.{Path, Taken}
+use Rattle.lv_parser.proofs.Settings.{setting}
+use Rattle.lv_parser.proofs.Paths.{next_of, lacks_of, begin, through, then, last, refuse, refuse_last, to_left, to_right, opens, other, absent, taken, take_more, take_stops, take_ends}
+use Rattle.lv_parser.proofs.Fronts.{leads_is}
+
+-- ---- answers that are handed on
+
+module _ {text : List ℕ} {tokens : List Token} {d : ℕ → Limit} where
+  -- what a part at the place where reading began gives, unchanged
+  pub carried : {A : Type 0} {g h : Gram base A} {at : ℕ} (r : Result (A × ℕ) SyntaxError) → Path text tokens d g at h at (λ y. y) → Answer text tokens d h at r → Answer text tokens d g at r
+  carried (Ok x) w a = last w a
+  carried (Err e) w a = refuse_last w a
+
+  -- ---- choices
+
+  pub to_first : {A C : Type 0} {f : Gram base C} {at : ℕ} {g h : Gram base A} {us : ℕ} {build : A → C} →
+      Path text tokens d f at (rules.or_else g h) us build → Outside base table h (from text tokens us) → Path text tokens d f at g us build
+  to_first w o = to_left (through w) o
+
+  pub to_other : {A C : Type 0} {f : Gram base C} {at : ℕ} {g h : Gram base A} {us : ℕ} {build : A → C} →
+      Path text tokens d f at (rules.or_else g h) us build → Outside base table g (from text tokens us) → Path text tokens d f at h us build
+  to_other w o = to_right (through w) o
+
+  -- ---- a rule's tree and perhaps a tail
+
+  pub to_tail : {A B : Type 0} {g : Gram base A} {at : ℕ} {r : Rule} {p : Shape} {h : Gram base B} {us vs : ℕ} {build : base.RuleTree r × Option B → A} {x : base.RuleTree r} →
+      Path text tokens d g at (tail r p h) us build → IsRead text tokens d (call r) us x vs → stands p (from text tokens vs) ≡ true → Path text tokens d g at h (vs + 1) (λ y. build (x, Some y))
+  to_tail {r = r} {p = p} {vs = vs} w q e = record { way = ways.to_tail r (setting text d) w.way q.reads (next_of p text tokens vs e) }
+
+  pub no_tail : {A B : Type 0} {g : Gram base A} {at : ℕ} {r : Rule} {p : Shape} {h : Gram base B} {us vs : ℕ} {build : base.RuleTree r × Option B → A} {x : base.RuleTree r} →
+      Path text tokens d g at (tail r p h) us build → IsRead text tokens d (call r) us x vs → stands p (from text tokens vs) ≡ false → IsRead text tokens d g at (build (x, None)) vs
+  no_tail {r = r} {p = p} {vs = vs} w q e = record { reads = ways.no_tail r (setting text d) w.way q.reads (lacks_of p (from text tokens vs) e) }
+
+  pub tail_refused : {A B : Type 0} {g : Gram base A} {at : ℕ} {r : Rule} {p : Shape} {h : Gram base B} {us : ℕ} {build : base.RuleTree r × Option B → A} {e : SyntaxError} →
+      Path text tokens d g at (tail r p h) us build → IsRefused text tokens d (call r) us e → IsRefused text tokens d g at e
+  tail_refused {g = g} {at} {r} {p = p} {h} {us} {build} {e} w q = record { why = why e q.why }
+    where
+      why : (e : SyntaxError) → Refuses text tokens d (call r) us e → Refuses text tokens d g at e
+      why error.NoMemory q = tt
+      why (error.Syntax k) q = (q.0, ways.tail_stops r (setting text d) w.way q.1)
+      why (error.Depth k) q = ways.tail_high r (setting text d) w.way q
+
+-- ---- a rule
+
+in_rule : (text : List ℕ) (tokens : List Token) (d : ℕ → Limit) (r : Rule) (at : ℕ) → allows (d (shapes.count_of r)) ≡ true → (e : SyntaxError) → Refuses text tokens (inside (shapes.count_of r) d) (rules.rules r) at e → Refuses text tokens d (call r) at e
+in_rule text tokens d r at a error.NoMemory q = tt
+in_rule text tokens d r at a (error.Syntax k) q = (q.0, ways.last_stops (ways.begin_rule (setting text d) r (from text tokens at) a) q.1)
+in_rule text tokens d r at a (error.Depth k) q = ways.last_high (ways.begin_rule (setting text d) r (from text tokens at) a) q
+
+-- what its grammar gives within the limits inside
+pub ruled : (text : List ℕ) (tokens : List Token) (d : ℕ → Limit) (r : Rule) (at : ℕ) → allows (d (shapes.count_of r)) ≡ true → (v : Result (base.RuleTree r × ℕ) SyntaxError) → Answer text tokens (inside (shapes.count_of r) d) (rules.rules r) at v →
+    Answer text tokens d (call r) at v
+ruled text tokens d r at a (Ok x) q = record { reads = ways.last (ways.begin_rule (setting text d) r (from text tokens at) a) q.reads }
+ruled text tokens d r at a (Err e) q = record { why = in_rule text tokens d r at a e q.why }
+
+-- ---- where no more may nest
+
+or_cases : (a b : Bool) → a || b ≡ true → (a ≡ true) ⊎ (b ≡ true)
+or_cases true b e = inl refl
+or_cases false b e = inr e
+
+-- a token of one of these shapes, of which it is computed that trees of the rule begin with them
+opens_one : (text : List ℕ) (tokens : List Token) (r : Rule) (n : ℕ) (at : ℕ) (ps : List Shape) → all_of (among base (viable.shapes base rules.rules n (call r))) ps ≡ true → some_of (λ p. stands p (from text tokens at)) ps ≡ true →
+    Opens base (all text) (call r) (from text tokens at)
+opens_one text tokens r n at [] z e = true_false _ e refl
+opens_one text tokens r n at (p ∷ ps) z e = elim (or_cases (stands p (from text tokens at)) (some_of (λ q. stands q (from text tokens at)) ps) e) [
+  | inl f ↦ opens text tokens (call r) at n p (and_left _ _ z) f
+  | inr f ↦ opens_one text tokens r n at ps (and_right _ _ z) f
+]
+
+leads_not : (r : Rule) (ts : List Lexeme) → leads r ts ≡ false → Outside base table (call r) ts
+leads_not r ts e = record { out = λ m us q. sym (ap (leads r) q) ∙ e }
+
+-- a limit is passed where one begins
+pub none_left : {text : List ℕ} {tokens : List Token} {d : ℕ → Limit} (r : Rule) (n : ℕ) (at : ℕ) → all_of (among base (viable.shapes base rules.rules n (call r))) (rule_leads r) ≡ true → at ≤ length tokens → allows (d (shapes.count_of r)) ≡ false →
+    (b : Bool) → b ≡ leads r (from text tokens at) → IsRefused text tokens d (call r) at (cond b (error.Depth at) (error.Syntax at))
+none_left {text} {tokens} {d} r n at z w a true e =
+    record { why = good.call_passes (setting text d) r a (opens_one text tokens r n at (rule_leads r) z (sym (leads_is r (from text tokens at)) ∙ sym e)) }
+none_left {text} {tokens} {d} r n at z w a false e = record { why = (w, good.call_outside (setting text d) r (leads_not r (from text tokens at) (sym e))) }
+
+-- ---- statements
+
+suc_of : (n : ℕ) → 0 < n → n ≡ suc (n - 1)
+suc_of n h = omega arith
+
+pub or_first : {v r : Bool} (a b : Bool) → v ≡ r → r ≡ true → r ≡ a → v ≡ (a || b)
+or_first true b e f g = e ∙ f
+or_first false b e f g = true_false _ f g
+
+pub or_second : {v r s : Bool} (a b : Bool) → v ≡ s → r ≡ false → r ≡ a → s ≡ b → v ≡ (a || b)
+or_second true b e f g h = true_false _ g f
+or_second false b e f g h = e ∙ h
+
+regrouped : (a b c d e f l : Bool) → (((a || (b || c)) || (d || e)) || (f || l)) ≡ (a || (b || (c || (d || (e || (f || l))))))
+regrouped true b c d e f l = refl
+regrouped false true c d e f l = refl
+regrouped false false true d e f l = refl
+regrouped false false false true e f l = refl
+regrouped false false false false e f l = refl
+
+-- what statements begin with, in groups
+pub stmt_leads_by : (ts : List Lexeme) (u v w : Bool) → u ≡ (stands (shapes.mark (codes ";")) ts || (stands (shapes.word (codes "begin")) ts || stands (shapes.word (codes "if")) ts)) →
+    v ≡ (u || (stands (shapes.word (codes "case")) ts || stands (shapes.word (codes "casez")) ts)) → w ≡ (v || (stands (shapes.word (codes "for")) ts || leads shapes.target ts)) → w ≡ leads shapes.stmt ts
+stmt_leads_by ts u v w x y z = z ∙ ap (λ b. b || (stands (shapes.word (codes "for")) ts || leads shapes.target ts)) (y ∙ ap (λ b. b || (stands (shapes.word (codes "case")) ts || stands (shapes.word (codes "casez")) ts)) x) ∙ same ts
+  where
+    same : (ts : List Lexeme) → (((stands (shapes.mark (codes ";")) ts || (stands (shapes.word (codes "begin")) ts || stands (shapes.word (codes "if")) ts)) || (stands (shapes.word (codes "case")) ts || stands (shapes.word (codes "casez")) ts)) ||
+        (stands (shapes.word (codes "for")) ts || leads shapes.target ts)) ≡ leads shapes.stmt ts
+    same [] = refl
+    same (t ∷ ts) =
+        regrouped (shapes.fits (shapes.mark (codes ";")) t) (shapes.fits (shapes.word (codes "begin")) t) (shapes.fits (shapes.word (codes "if")) t) (shapes.fits (shapes.word (codes "case")) t) (shapes.fits (shapes.word (codes "casez")) t)
+        (shapes.fits (shapes.word (codes "for")) t) (leads shapes.target (t ∷ ts))
+
+-- one statement more may nest
+pub stmt_within : (text : List ℕ) (tokens : List Token) (n : ℕ) (at : ℕ) (v : Result (Stmt × ℕ) SyntaxError) → 0 < n → AnswersStmts (n - 1) text tokens rules.stmt_rule at v → AnswersStmts n text tokens (call shapes.stmt) at v
+stmt_within text tokens n at v h q = λ d e f.
+    let g : d 1 ≡ most (suc (n - 1)) = f ∙ ap most (suc_of n h) in
+    ruled text tokens d shapes.stmt at (ap allows g) v (q (inside 1 d) e (ap lowered g))
+
+pub stmt_none : (text : List ℕ) (tokens : List Token) (n : ℕ) (at : ℕ) (b : Bool) (e : SyntaxError) → n ≡ 0 → at ≤ length tokens → b ≡ leads shapes.stmt (from text tokens at) → e ≡ cond b (error.Depth at) (error.Syntax at) →
+    AnswersStmts n text tokens (call shapes.stmt) at (Err e)
+stmt_none text tokens n at b e z w l q = λ d f g.
+    subst (λ x. IsRefused text tokens d (call shapes.stmt) at x) (sym q) (none_left shapes.stmt 2 at refl w (ap allows (g ∙ ap most z)) b l)
+
+abbrev from_loop : Gram base Stmt
+from_loop = rules.or_else rules.loop rules.assignment
+
+abbrev from_casez : Gram base Stmt
+from_casez = rules.or_else (rules.cases true) from_loop
+
+abbrev from_case : Gram base Stmt
+from_case = rules.or_else (rules.cases false) from_casez
+
+abbrev from_choice : Gram base Stmt
+from_choice = rules.or_else rules.choice from_case
+
+abbrev from_block : Gram base Stmt
+from_block = rules.or_else rules.block from_choice
+
+module _ {text : List ℕ} {tokens : List Token} {d : ℕ → Limit} (at : ℕ) where
+  pub empty_first : stands (shapes.mark (codes ";")) (from text tokens at) ≡ true → Path text tokens d rules.stmt_rule at rules.empty at (λ y. y)
+  empty_first e = to_first (begin rules.stmt_rule at refl) (other text tokens from_block at (shapes.mark (codes ";")) refl e)
+
+  pub not_empty : stands (shapes.mark (codes ";")) (from text tokens at) ≡ false → Path text tokens d rules.stmt_rule at from_block at (λ y. y)
+  not_empty e = to_other (begin rules.stmt_rule at refl) (absent text tokens rules.empty at (shapes.mark (codes ";")) refl e)
+
+  pub block_first : Path text tokens d rules.stmt_rule at from_block at (λ y. y) → stands (shapes.word (codes "begin")) (from text tokens at) ≡ true → Path text tokens d rules.stmt_rule at rules.block at (λ y. y)
+  block_first w e = to_first w (other text tokens from_choice at (shapes.word (codes "begin")) refl e)
+
+  pub not_block : Path text tokens d rules.stmt_rule at from_block at (λ y. y) → stands (shapes.word (codes "begin")) (from text tokens at) ≡ false → Path text tokens d rules.stmt_rule at from_choice at (λ y. y)
+  not_block w e = to_other w (absent text tokens rules.block at (shapes.word (codes "begin")) refl e)
+
+  pub choice_first : Path text tokens d rules.stmt_rule at from_choice at (λ y. y) → stands (shapes.word (codes "if")) (from text tokens at) ≡ true → Path text tokens d rules.stmt_rule at rules.choice at (λ y. y)
+  choice_first w e = to_first w (other text tokens from_case at (shapes.word (codes "if")) refl e)
+
+  pub not_choice : Path text tokens d rules.stmt_rule at from_choice at (λ y. y) → stands (shapes.word (codes "if")) (from text tokens at) ≡ false → Path text tokens d rules.stmt_rule at from_case at (λ y. y)
+  not_choice w e = to_other w (absent text tokens rules.choice at (shapes.word (codes "if")) refl e)
+
+  pub case_first : Path text tokens d rules.stmt_rule at from_case at (λ y. y) → stands (shapes.word (codes "case")) (from text tokens at) ≡ true → Path text tokens d rules.stmt_rule at (rules.cases false) at (λ y. y)
+  case_first w e = to_first w (other text tokens from_casez at (shapes.word (codes "case")) refl e)
+
+  pub not_case : Path text tokens d rules.stmt_rule at from_case at (λ y. y) → stands (shapes.word (codes "case")) (from text tokens at) ≡ false → Path text tokens d rules.stmt_rule at from_casez at (λ y. y)
+  not_case w e = to_other w (absent text tokens (rules.cases false) at (shapes.word (codes "case")) refl e)
+
+  pub casez_first : Path text tokens d rules.stmt_rule at from_casez at (λ y. y) → stands (shapes.word (codes "casez")) (from text tokens at) ≡ true → Path text tokens d rules.stmt_rule at (rules.cases true) at (λ y. y)
+  casez_first w e = to_first w (other text tokens from_loop at (shapes.word (codes "casez")) refl e)
+
+  pub not_casez : Path text tokens d rules.stmt_rule at from_casez at (λ y. y) → stands (shapes.word (codes "casez")) (from text tokens at) ≡ false → Path text tokens d rules.stmt_rule at from_loop at (λ y. y)
+  not_casez w e = to_other w (absent text tokens (rules.cases true) at (shapes.word (codes "casez")) refl e)
+
+  pub loop_first : Path text tokens d rules.stmt_rule at from_loop at (λ y. y) → stands (shapes.word (codes "for")) (from text tokens at) ≡ true → Path text tokens d rules.stmt_rule at rules.loop at (λ y. y)
+  loop_first w e = to_first w (other text tokens rules.assignment at (shapes.word (codes "for")) refl e)
+
+  pub not_loop : Path text tokens d rules.stmt_rule at from_loop at (λ y. y) → stands (shapes.word (codes "for")) (from text tokens at) ≡ false → Path text tokens d rules.stmt_rule at rules.assignment at (λ y. y)
+  not_loop w e = to_other w (absent text tokens rules.loop at (shapes.word (codes "for")) refl e)
+
+-- ---- an if, and perhaps its else
+
+module _ {text : List ℕ} {tokens : List Token} {d : ℕ → Limit} where
+  pub branches_refused : {at : ℕ} {e : SyntaxError} → IsRefused text tokens d (call shapes.stmt) at e → IsRefused text tokens d rules.branches at e
+  branches_refused {at} q = tail_refused {r = shapes.stmt} {p = shapes.word (codes "else")} {h = call shapes.stmt} {us = at} {build = λ y. y} (begin rules.branches at refl) q
+
+  pub else_next : {at us : ℕ} {x : Stmt} → IsRead text tokens d (call shapes.stmt) at x us → stands (shapes.word (codes "else")) (from text tokens us) ≡ true → Path text tokens d rules.branches at (call shapes.stmt) (us + 1) (λ y. (x, Some y))
+  else_next {at} {us} {x} q e = to_tail {r = shapes.stmt} {p = shapes.word (codes "else")} {h = call shapes.stmt} {us = at} {build = λ y. y} {x = x} (begin rules.branches at refl) q e
+
+  pub no_else : {at us : ℕ} {x : Stmt} → IsRead text tokens d (call shapes.stmt) at x us → stands (shapes.word (codes "else")) (from text tokens us) ≡ false → IsRead text tokens d rules.branches at (x, None) us
+  no_else {at} {us} {x} q e = no_tail {r = shapes.stmt} {p = shapes.word (codes "else")} {h = call shapes.stmt} {us = at} {build = λ y. y} {x = x} (begin rules.branches at refl) q e
+
+-- ---- assignments
+
+pub later_by : (text : List ℕ) (tokens : List Token) (at : ℕ) {t : Target} {x : Expr} {later : Bool} {place : ℕ} → later ≡ true → place ≡ place_of (from text tokens at) → rules.assigned_by later (placed text tokens at t) x ≡ stmt.Later t x place
+later_by text tokens at {t} {x} e p = ap (λ b. rules.assigned_by b (placed text tokens at t) x) e ∙ ap (stmt.Later t x) (sym p)
+
+pub now_by : (text : List ℕ) (tokens : List Token) (at : ℕ) {t : Target} {x : Expr} {later : Bool} {place : ℕ} → later ≡ false → place ≡ place_of (from text tokens at) → rules.assigned_by later (placed text tokens at t) x ≡ stmt.Now t x place
+now_by text tokens at {t} {x} e p = ap (λ b. rules.assigned_by b (placed text tokens at t) x) e ∙ ap (stmt.Now t x) (sym p)
+
+-- ---- the words before a default arm
+
+pub exit_some : {text : List ℕ} {tokens : List Token} {d : ℕ → Limit} {A : Type 0} {g : Gram base A} {at : ℕ} (r : Result ℕ SyntaxError) {e : SyntaxError} →
+    IsErrAnd r (λ y. y ≡ e) → IsRefused text tokens d g at e → MatchResult r (λ end. (x : A) × IsRead text tokens d g at x end) (λ y. IsRefused text tokens d g at y)
+exit_some {text} {tokens} {d} {g = g} {at} (Err y) i w = subst (λ z. IsRefused text tokens d g at z) (sym i) w
+exit_some (Ok x) i w = absurd i
+
+-- ---- arms
+
+-- of the arms of a case statement, from token `at` to `us`, these are read
+pub record Armed (text : List ℕ) (tokens : List Token) (d : ℕ → Limit) (wild : Bool) (at us : ℕ) (xs : List Arm) : Type 0 where
+  pub first : Arm
+  pub behind_first : ℕ
+  pub others : List Arm
+  pub begun : Path text tokens d (rules.arms wild) at (until (rules.arm wild) (rules.word (codes "endcase"))) behind_first (λ ys. rules.arms_of (first, ys))
+  pub taken : Taken text tokens d (rules.arm wild) (shapes.word (codes "endcase")) behind_first us others
+  pub are : xs ≡ first ∷ others
+
+pub first_refused : {text : List ℕ} {tokens : List Token} {d : ℕ → Limit} (wild : Bool) {at : ℕ} {e : SyntaxError} → IsRefused text tokens d (rules.arm wild) at e → IsRefused text tokens d (rules.arms wild) at e
+first_refused wild {at} r = refuse (through (begin (rules.arms wild) at refl)) r
+
+module _ {text : List ℕ} {tokens : List Token} {d : ℕ → Limit} {wild : Bool} {at : ℕ} where
+  pub arms_first : {us : ℕ} {x : Arm} {none xs : List Arm} → none ≡ [] → xs ≡ none ++ (x ∷ []) → IsRead text tokens d (rules.arm wild) at x us → Armed text tokens d wild at us xs
+  arms_first {us} {x} n e r = record {
+    first = x;
+    behind_first = us;
+    others = [];
+    begun = then (through (begin (rules.arms wild) at refl)) r;
+    taken = taken (rules.arm wild) (shapes.word (codes "endcase")) us refl;
+    are = e ∙ ap (λ ys. ys ++ (x ∷ [])) n;
+  }
+
+  pub arms_more : {us vs : ℕ} {xs zs : List Arm} {x : Arm} → Armed text tokens d wild at us xs → stands (shapes.word (codes "endcase")) (from text tokens us) ≡ false → zs ≡ xs ++ (x ∷ []) →
+      IsRead text tokens d (rules.arm wild) us x vs → Armed text tokens d wild at vs zs
+  arms_more {us} {vs} {xs} {zs} {x} w c e r = record {
+    first = w.first;
+    behind_first = w.behind_first;
+    others = w.others ++ (x ∷ []);
+    begun = w.begun;
+    taken = take_more refl w.taken c refl r;
+    are = e ∙ ap (λ ys. ys ++ (x ∷ [])) w.are;
+  }
+
+  pub arms_stop : {us : ℕ} {xs : List Arm} {e : SyntaxError} → Armed text tokens d wild at us xs → stands (shapes.word (codes "endcase")) (from text tokens us) ≡ false →
+      IsRefused text tokens d (rules.arm wild) us e → IsRefused text tokens d (rules.arms wild) at e
+  arms_stop w c r = refuse_last w.begun (take_stops refl w.taken c r)
+
+  pub arms_end : {us : ℕ} {xs : List Arm} → Armed text tokens d wild at us xs → stands (shapes.word (codes "endcase")) (from text tokens us) ≡ true → IsRead text tokens d (rules.arms wild) at xs (us + 1)
+  arms_end {us} w c = subst (λ ys. IsRead text tokens d (rules.arms wild) at ys (us + 1)) (sym w.are) (last w.begun (take_ends refl refl w.taken c))

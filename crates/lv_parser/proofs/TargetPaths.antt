@@ -1,0 +1,47 @@
+-- How targets are read.
+use Rattle.std.proofs.Common.{◌≡◌, ℕ, zero, suc, ◌+◌, ◌-◌, ◌<◌, ◌≤◌, List, [], ◌∷◌, length, Bool, true, false, cond, Result, Ok, Err, refl, sym, ◌∙◌, ap, subst, codes, arith}
+use Rattle.lv_ast.specs.declared.tokens.Token.{Token}
+use Rattle.lv_ast.specs.declared.expr.Path.{Path as ExprPath}
+use Rattle.lv_ast.specs.declared.expr.Select.{Select}
+use Rattle.lv_ast.specs.declared.stmt.Target.{Target}
+use Rattle.lv_ast.specs.declared.stmt.Target.TheVariants as target
+use Rattle.lv_exprs.specs.declared.error.SyntaxError.{SyntaxError}
+use Rattle.lv_exprs.specs.declared.error.SyntaxError.TheVariants as error
+use Rattle.lv_viable.specs.Grammar.{Gram, call, act}
+use Rattle.lv_viable.specs.Spelling.{Limit, most, allows, lowered, inside}
+use Rattle.lv_parser.specs.Shapes.{Placed, base, stands}
+use Rattle.lv_parser.specs.Shapes as shapes
+use Rattle.lv_parser.specs.Rules as rules
+use Rattle.lv_parser.specs.Answers.{from, leads, placed, placed_result, IsRead, IsRefused, Answer, AnswersTargets}
+use Rattle.lv_parser.specs.Paths.{Path}
+use Rattle.lv_parser.proofs.Paths.{begin, through, last, refuse_last, to_left, to_right, other, absent}
+use Rattle.lv_parser.proofs.Selects.{named_place}
+use Rattle.lv_parser.proofs.StatementPaths.{ruled, none_left, carried, to_first, to_other}
+
+suc_of : (n : ℕ) → 0 < n → n ≡ suc (n - 1)
+suc_of n h = omega arith
+
+-- one target more may nest
+pub target_within : (text : List ℕ) (tokens : List Token) (n : ℕ) (at : ℕ) (v : Result (Placed Target × ℕ) SyntaxError) → 0 < n → AnswersTargets (n - 1) text tokens rules.target_rule at v →
+    AnswersTargets n text tokens (call shapes.target) at v
+target_within text tokens n at v h q = λ d e.
+    let g : d 0 ≡ most (suc (n - 1)) = e ∙ ap most (suc_of n h) in
+    ruled text tokens d shapes.target at (ap allows g) v (q (inside 0 d) (ap lowered g))
+
+-- no more may nest
+pub target_none : (text : List ℕ) (tokens : List Token) (n : ℕ) (at : ℕ) (b : Bool) (e : SyntaxError) → n ≡ 0 → at ≤ length tokens → b ≡ leads shapes.target (from text tokens at) →
+    e ≡ cond b (error.Depth at) (error.Syntax at) → AnswersTargets n text tokens (call shapes.target) at (Err e)
+target_none text tokens n at b e z w l q = λ d g.
+    subst (λ x. IsRefused text tokens d (call shapes.target) at x) (sym q) (none_left shapes.target 1 at refl w (ap allows (g ∙ ap most z)) b l)
+
+module _ (text : List ℕ) (tokens : List Token) (d : ℕ → Limit) (at : ℕ) where
+  pub joined_next : stands (shapes.mark (codes "{")) (from text tokens at) ≡ true → Path text tokens d rules.target_rule at rules.joined at (λ y. y)
+  joined_next e = to_first (begin rules.target_rule at refl) (other text tokens (act rules.named_target rules.named) at (shapes.mark (codes "{")) refl e)
+
+  pub named_next : stands (shapes.mark (codes "{")) (from text tokens at) ≡ false → Path text tokens d rules.target_rule at rules.named at rules.named_target
+  named_next e = through (to_other (begin rules.target_rule at refl) (absent text tokens rules.joined at (shapes.mark (codes "{")) refl e))
+
+  pub named_target_read : {p : ExprPath} {ss : List Select} {end : ℕ} → stands (shapes.mark (codes "{")) (from text tokens at) ≡ false → IsRead text tokens d rules.named at (p, ss) end →
+      IsRead text tokens d rules.target_rule at (placed text tokens at (target.Name p ss)) end
+  named_target_read {p} {ss} {end} e r =
+      subst (λ n. IsRead text tokens d rules.target_rule at (record { tree = target.Name p ss; place = n }) end) (named_place r) (last (named_next e) r)

@@ -1,0 +1,31 @@
+use Rattle.std.proofs.Common.{refl, sym, ◌∙◌, codes}
+use Rattle.lv_viable.specs.Grammar.{both}
+use Rattle.lv_parser.specs.Shapes as shapes
+use Rattle.lv_parser.specs.Rules as rules
+use Rattle.lv_parser.proofs.Paths.{begin, through, then, last, refuse, refuse_last, to_left, to_right, other, absent, token_read}
+use Rattle.lv_parser.proofs.Fronts.{exit}
+use Rattle.lv_parser.proofs.conns.conn_value.Goals as goal
+
+pub returns-then-is_mark-clause-answer : goal.returns-then-is_mark-clause-answer
+returns-then-is_mark-clause-answer c = λ d.
+    let e = sym c.is_mark.ensures.answer ∙ c.if-is_mark.true in
+    let o = other c.args.tokens.now.text c.args.tokens.now.list (both rules.value rules.closes) c.args.at (shapes.mark (codes ")")) refl e in
+    last (to_left (through (begin rules.conn_end c.args.at refl)) o) (token_read d (shapes.mark (codes ")")) c.args.at e)
+
+pub returns-in_err-value-clause-answer : goal.returns-in_err-value-clause-answer
+returns-in_err-value-clause-answer c = λ d.
+    let o = absent c.args.tokens.now.text c.args.tokens.now.list rules.closes c.args.at (shapes.mark (codes ")")) refl (sym c.is_mark.ensures.answer ∙ c.if-is_mark.false) in
+    let w = to_right (through (begin rules.conn_end c.args.at refl)) o in
+    exit _ c.from_residual.ensures.1 (refuse w (c.in_err-value.ensures.answer d))
+
+pub returns-in_err-end-clause-answer : goal.returns-in_err-end-clause-answer
+returns-in_err-end-clause-answer c = λ d.
+    let o = absent c.args.tokens.now.text c.args.tokens.now.list rules.closes c.args.at (shapes.mark (codes ")")) refl (sym c.is_mark.ensures.answer ∙ c.if-is_mark.false) in
+    let w = to_right (through (begin rules.conn_end c.args.at refl)) o in
+    exit _ c.from_residual-in_err-end.ensures.1 (refuse_last (then w (c.in_ok-value.ensures.answer d)) (c.in_err-end.ensures.answer d))
+
+pub returns-in_ok-end-clause-answer : goal.returns-in_ok-end-clause-answer
+returns-in_ok-end-clause-answer c = λ d.
+    let o = absent c.args.tokens.now.text c.args.tokens.now.list rules.closes c.args.at (shapes.mark (codes ")")) refl (sym c.is_mark.ensures.answer ∙ c.if-is_mark.false) in
+    let w = to_right (through (begin rules.conn_end c.args.at refl)) o in
+    last (then w (c.in_ok-value.ensures.answer d)) (c.in_ok-end.ensures.answer d)

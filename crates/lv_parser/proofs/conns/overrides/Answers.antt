@@ -1,0 +1,17 @@
+use Rattle.std.proofs.Common.{refl, sym, ◌∙◌, codes}
+use Rattle.lv_parser.specs.Shapes as shapes
+use Rattle.lv_parser.specs.Rules as rules
+use Rattle.lv_parser.proofs.Paths.{begin, through, to_some, to_none, opens, absent}
+use Rattle.lv_parser.proofs.Carried.{carried}
+use Rattle.lv_parser.proofs.Instead.{instead}
+use Rattle.lv_parser.proofs.conns.overrides.Goals as goal
+
+pub returns-then-is_mark-clause-answer : goal.returns-then-is_mark-clause-answer
+returns-then-is_mark-clause-answer c = λ d.
+    let o = opens c.args.tokens.now.text c.args.tokens.now.list (rules.hash rules.conns) c.args.at 0 (shapes.mark (codes "#")) refl (sym c.is_mark.ensures.answer ∙ c.if-is_mark.true) in
+    carried (to_some (through (begin rules.overrides c.args.at refl)) o) c.settings.result (c.settings.ensures.answer d)
+
+pub returns-else-is_mark-clause-answer : goal.returns-else-is_mark-clause-answer
+returns-else-is_mark-clause-answer c = λ d.
+    let o = absent c.args.tokens.now.text c.args.tokens.now.list (rules.hash rules.conns) c.args.at (shapes.mark (codes "#")) refl (sym c.is_mark.ensures.answer ∙ c.if-is_mark.false) in
+    instead c.new.ensures (to_none (through (begin rules.overrides c.args.at refl)) o)

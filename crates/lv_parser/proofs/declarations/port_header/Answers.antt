@@ -1,0 +1,18 @@
+use Rattle.std.proofs.Common.{refl}
+use Rattle.lv_parser.specs.Rules as rules
+use Rattle.lv_parser.proofs.Paths.{begin, then, last, refuse, refuse_last}
+use Rattle.lv_parser.proofs.Fronts.{exit}
+use Rattle.lv_parser.proofs.declarations.port_header.Goals as goal
+
+pub returns-in_err-direction-clause-answer : goal.returns-in_err-direction-clause-answer
+returns-in_err-direction-clause-answer c = λ d. exit _ c.from_residual.ensures.1 (refuse (begin rules.port_header c.args.at refl) (c.in_err-direction.ensures.answer d))
+
+pub returns-in_err-header-clause-answer : goal.returns-in_err-header-clause-answer
+returns-in_err-header-clause-answer c = λ d.
+    let w1 = then (begin rules.port_header c.args.at refl) (c.in_ok-direction.ensures.answer d) in
+    exit _ c.from_residual-in_err-header.ensures.1 (refuse_last w1 (c.in_err-header.ensures.answer d))
+
+pub returns-clause-answer : goal.returns-clause-answer
+returns-clause-answer c = λ d.
+    let w1 = then (begin rules.port_header c.args.at refl) (c.in_ok-direction.ensures.answer d) in
+    last w1 (c.in_ok-header.ensures.answer d)

@@ -1,0 +1,19 @@
+use Rattle.std.proofs.Common.{refl, sym, subst}
+use Rattle.lv_parser.specs.Shapes as shapes
+use Rattle.lv_parser.specs.Rules as rules
+use Rattle.lv_parser.specs.Answers.{Answer}
+use Rattle.lv_parser.proofs.Definites.{expr_placed, expr_goes, tree_answer}
+use Rattle.lv_parser.proofs.exprs.label.Goals as goal
+
+pub returns-then-wild-clause-answer : goal.returns-then-wild-clause-answer
+returns-then-wild-clause-answer c = λ d.
+    subst (λ w. Answer c.args.tokens.now.text c.args.tokens.now.list d (rules.label w) c.args.at c.read_expr.result) (sym c.if-wild.true)
+    (tree_answer c.args.tokens.now.text c.args.tokens.now.list c.args.at d (rules.expr shapes.label) refl c.read_expr.result
+    (expr_placed c.args.tokens.now.text c.args.tokens.now.list c.args.at d c.requires c.read_expr.result c.read_expr.ensures))
+
+pub returns-then-wild-clause-ahead : goal.returns-then-wild-clause-ahead
+returns-then-wild-clause-ahead c = expr_goes c.args.tokens.now.text c.args.tokens.now.list c.args.at c.read_expr.result c.requires c.read_expr.ensures
+
+pub returns-else-wild-clause-answer : goal.returns-else-wild-clause-answer
+returns-else-wild-clause-answer c = λ d.
+    subst (λ w. Answer c.args.tokens.now.text c.args.tokens.now.list d (rules.label w) c.args.at c.value.result) (sym c.if-wild.false) (c.value.ensures.answer d)

@@ -1,0 +1,12 @@
+use Rattle.std.proofs.Common.{ℕ, ◌-◌, ◌≤◌, ◌<◌, length}
+use Rattle.lv_viable.specs.Spelling.{Limit}
+use Rattle.lv_parser.specs.Rules as rules
+use Rattle.lv_parser.specs.Paths.{Listed}
+use Rattle.lv_parser.proofs.statements.labels.Given as goal
+
+abbrev pub invariant-entries : goal.invariant-entries
+invariant-entries l =
+    ((d : ℕ → Limit) → Listed l.tokens.text l.tokens.list d (rules.label l.wild) l.fn.at l.end l.list) × (l.fn.at < l.end) × (l.end ≤ length l.tokens.list)
+
+abbrev pub decreases-entries : goal.decreases-entries
+decreases-entries l = length l.tokens.list - l.end

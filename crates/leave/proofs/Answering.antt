@@ -1,5 +1,5 @@
 -- Answers, put together from what was read.
-use Rattle.std.proofs.Common.{◌≡◌, ℕ, ◌≤◌, List, refl, sym, subst, arith}
+use Rattle.std.proofs.Common.{◌≡◌, ℕ, ◌≤◌, List, [], ◌∷◌, refl, sym, subst, arith}
 use Rattle.std.specs.Prelude.{Option, Some, None, IfSome, ◌⊎◌}
 use Rattle.std.proofs.Common.{inl, inr}
 use Rattle.lv_io.specs.declared.shelf.ShelfError.{ShelfError}
@@ -7,15 +7,16 @@ use Rattle.lv_io.specs.Causes.{Rose}
 use Rattle.lv_io.specs.Files.{Files, HoldsFile, IsAbsent, IsLonger}
 use Rattle.lv_ast.specs.declared.tokens.Token.{Token}
 use Rattle.lv_ast.specs.declared.item.Module.{Module}
+use Rattle.lv_ast.specs.declared.item.Source.{Source}
 use Rattle.leave.specs.declared.answer.Answer.{Answer}
 use Rattle.leave.specs.declared.contract_file.ContractTexts.{ContractTexts}
 use Rattle.leave.specs.declared.observed.ObserverTrees.{ObserverTrees}
 use Rattle.leave.specs.ContractFile.{IsContractFile}
 use Rattle.lv_ast.specs.Folds.{Stop, UnknownMacro, Unbalanced, Malformed, Depth}
-use Rattle.leave.specs.Spelling.{IsModuleOf}
-use Rattle.leave.specs.Texts.{IsFolded, IsDesignText, IsTextRefusal, bad_byte, bad_literal, unclosed, many_tokens, stopped, many_uses, stop_answer}
-use Rattle.leave.specs.FirstForm.{IsLegal, AreObservers}
-use Rattle.leave.specs.Answers.{AsksFor, IsCommandLine, AreTextsOf, IsTask, Outside, IsReadName, HoldsText, IsUnbuilt, behind_directives, IsAnswer, accepted, unproved, usage, missing, overlong, unread, unbuilt, fault, no_memory, proved, unproved_one, not_of_form, IsSpelled, spelled, not_spelled, IsJudged, judged, not_folded, unjudged, IsCause, Goes, IsRefusal, is_missing, is_long, is_fault, is_memory, IsReported, told, cut, unwritten, Reports, IsVerifiedFile, IsUnprovedFile, HasFault, code_of}
+use Rattle.lv_parser.specs.Answers.{IsSource}
+use Rattle.leave.specs.Texts.{IsFolded, IsDesignText, IsTextRefusal, IsSyntaxRefusal, wrong, deep, bad_byte, bad_literal, unclosed, many_tokens, stopped, many_uses, stop_answer}
+use Rattle.leave.specs.FirstForm.{IsFirstForm}
+use Rattle.leave.specs.Answers.{AsksFor, IsCommandLine, AreTextsOf, IsTask, Outside, IsReadName, HoldsText, IsUnbuilt, behind_syntax, other_form, IsAnswer, accepted, unproved, usage, missing, overlong, unread, unspelled, unbuilt, fault, no_memory, proved, unproved_one, not_of_form, IsOfSource, one_module, other, IsOfTokens, of_source, not_spelled, no_room, IsJudged, judged, not_folded, unjudged, IsCause, Goes, IsRefusal, is_missing, is_long, is_fault, is_memory, IsReported, told, cut, unwritten, Reports, IsVerifiedFile, IsUnprovedFile, HasFault, code_of}
 
 abbrev pub line_of : (words : List (List ℕ)) (file : List ℕ) → AsksFor words file → IsCommandLine words
 line_of words file asks = record { file = file; asks = asks }
@@ -36,14 +37,11 @@ refused_is words before after file name error _ asks read cause (is_memory _) = 
 
 -- ---- the files that are told
 
-abbrev Legality : ContractTexts → Module → ObserverTrees → Type 0
-Legality texts m c = IsLegal m texts.top texts.clock × AreObservers m texts.clock c
-
 told_task : (told_files : Option Files) (file : List ℕ) (bytes source : List ℕ) (texts : ContractTexts) (m : Module) (c : ObserverTrees) →
     HoldsFile file bytes told_files → HoldsFile texts.file source told_files → IsContractFile bytes texts → IsDesignText source m → AreTextsOf texts c →
-    Legality texts m c → IfSome told_files (λ files. IsTask files file texts m c)
-told_task None file bytes source texts m c h g contract_is design_is trees legal = tt
-told_task (Some files) file bytes source texts m c h g contract_is design_is trees legal = record {
+    IsFirstForm m texts.top texts.clock c → IfSome told_files (λ files. IsTask files file texts m c)
+told_task None file bytes source texts m c h g contract_is design_is trees form = tt
+told_task (Some files) file bytes source texts m c h g contract_is design_is trees form = record {
   contract_bytes = bytes;
   contract_held = h;
   contract = contract_is;
@@ -51,8 +49,7 @@ told_task (Some files) file bytes source texts m c h g contract_is design_is tre
   design_held = g;
   design = design_is;
   expressions = trees;
-  legal = legal.0;
-  observers = legal.1;
+  form = form;
 }
 
 abbrev holds_text : (files : Option Files) (file bytes source : List ℕ) (texts : ContractTexts) →
@@ -67,27 +64,40 @@ holds_text files file bytes source texts h g contract_is = record {
   joined = refl;
 }
 
-abbrev design_text : (text : List ℕ) (folded : List Token) (m : Module) → IsFolded text folded → IsModuleOf text folded m → IsDesignText text m
-design_text text folded m folds h = record { folded = folded; folds = folds; spelled = h }
+-- a source of one module
+source_of : (s : Source) (m : Module) → s.modules ≡ m ∷ [] → s ≡ record { modules = m ∷ [] }
+source_of s m e = λ i. record { modules = e i }
 
-spelled_is : (words : List (List ℕ)) (before after : Outside) (file bytes source : List ℕ) (texts : ContractTexts) (folded : List Token) (answer : Answer) →
-    AsksFor words file → HoldsFile file bytes before.files → HoldsFile texts.file source before.files → IsContractFile bytes texts →
-    IsFolded source folded → IsSpelled texts source folded answer → IsAnswer words before after answer
-spelled_is words before after file bytes source texts folded answer asks h g contract_is folds (not_spelled e) =
+design_text : (text : List ℕ) (folded : List Token) (s : Source) (m : Module) → IsFolded text folded → IsSource text folded s → s.modules ≡ m ∷ [] → IsDesignText text m
+design_text text folded s m folds h e = record { folded = folded; folds = folds; spelled = subst (IsSource text folded) (source_of s m e) h }
+
+of_source_is : (words : List (List ℕ)) (before after : Outside) (file bytes text : List ℕ) (texts : ContractTexts) (folded : List Token) (s : Source) (answer : Answer) →
+    AsksFor words file → HoldsFile file bytes before.files → HoldsFile texts.file text before.files → IsContractFile bytes texts →
+    IsFolded text folded → IsSource text folded s → IsOfSource texts s answer → IsAnswer words before after answer
+of_source_is words before after file bytes text texts folded s answer asks h g contract_is folds of_tokens (other cause e) =
     subst (IsAnswer words before after) (sym e)
-    (unbuilt (line_of words file asks) (behind_directives source folded (holds_text before.files file bytes source texts h g contract_is) folds))
-spelled_is words before after file bytes source texts folded _ asks h g contract_is folds (spelled m c trees of_tokens (proved legal observers verdict)) =
-    accepted (line_of words file asks) texts m c (told_task before.files file bytes source texts m c h g contract_is (design_text source folded m folds of_tokens) trees (legal, observers)) verdict
-spelled_is words before after file bytes source texts folded _ asks h g contract_is folds (spelled m c trees of_tokens (unproved_one legal observers no_list)) =
-    unproved (line_of words file asks) texts m c (told_task before.files file bytes source texts m c h g contract_is (design_text source folded m folds of_tokens) trees (legal, observers)) no_list
-spelled_is words before after file bytes source texts folded _ asks h g contract_is folds (spelled m c trees of_tokens not_of_form) =
-    unbuilt (line_of words file asks) (behind_directives source folded (holds_text before.files file bytes source texts h g contract_is) folds)
+    (unbuilt (line_of words file asks) (behind_syntax text folded s (holds_text before.files file bytes text texts h g contract_is) folds of_tokens cause))
+of_source_is words before after file bytes text texts folded s _ asks h g contract_is folds of_tokens (one_module m c e trees (proved form verdict)) =
+    accepted (line_of words file asks) texts m c (told_task before.files file bytes text texts m c h g contract_is (design_text text folded s m folds of_tokens e) trees form) verdict
+of_source_is words before after file bytes text texts folded s _ asks h g contract_is folds of_tokens (one_module m c e trees (unproved_one form no_list)) =
+    unproved (line_of words file asks) texts m c (told_task before.files file bytes text texts m c h g contract_is (design_text text folded s m folds of_tokens e) trees form) no_list
+of_source_is words before after file bytes text texts folded s _ asks h g contract_is folds of_tokens (one_module m c e trees (not_of_form none)) =
+    unbuilt (line_of words file asks) (behind_syntax text folded s (holds_text before.files file bytes text texts h g contract_is) folds of_tokens (other_form m c e trees none))
+
+of_tokens_is : (words : List (List ℕ)) (before after : Outside) (file bytes text : List ℕ) (texts : ContractTexts) (folded : List Token) (answer : Answer) →
+    AsksFor words file → HoldsFile file bytes before.files → HoldsFile texts.file text before.files → IsContractFile bytes texts →
+    IsFolded text folded → IsOfTokens texts text folded answer → IsAnswer words before after answer
+of_tokens_is words before after file bytes text texts folded answer asks h g contract_is folds (of_source s is verdict) =
+    of_source_is words before after file bytes text texts folded s answer asks h g contract_is folds is verdict
+of_tokens_is words before after file bytes text texts folded answer asks h g contract_is folds (not_spelled refusal) =
+    unspelled (line_of words file asks) text folded answer (holds_text before.files file bytes text texts h g contract_is) folds refusal
+of_tokens_is words before after file bytes text texts folded answer asks h g contract_is folds (no_room e) = subst (IsAnswer words before after) (sym e) no_memory
 
 pub judged_is : (words : List (List ℕ)) (before after : Outside) (file bytes source : List ℕ) (texts : ContractTexts) (answer : Answer) →
     AsksFor words file → HoldsFile file bytes before.files → HoldsFile texts.file source before.files → IsContractFile bytes texts →
     IsJudged texts source answer → IsAnswer words before after answer
 judged_is words before after file bytes source texts answer asks h g contract_is (judged folded folds verdict) =
-    spelled_is words before after file bytes source texts folded answer asks h g contract_is folds verdict
+    of_tokens_is words before after file bytes source texts folded answer asks h g contract_is folds verdict
 judged_is words before after file bytes source texts answer asks h g contract_is (not_folded refusal) =
     unread (line_of words file asks) source answer (holds_text before.files file bytes source texts h g contract_is) refusal
 judged_is words before after file bytes source texts answer asks h g contract_is (unjudged e) = subst (IsAnswer words before after) (sym e) no_memory
@@ -107,6 +117,8 @@ answer_later words first middle last _ goes (overlong line name read rose longer
     overlong line name (name_earlier middle.files first.files line.file name goes.files read) (rose_later first.overlong middle.overlong last.overlong goes.overlong rose) (subst (IsLonger name 4194304) goes.files longer)
 answer_later words first middle last answer goes (unread line text _ holds refusal) =
     unread line text answer (subst (λ z. HoldsText z line.file text) goes.files holds) refusal
+answer_later words first middle last answer goes (unspelled line text folded _ holds folds refusal) =
+    unspelled line text folded answer (subst (λ z. HoldsText z line.file text) goes.files holds) folds refusal
 answer_later words first middle last _ goes (unbuilt line read) = unbuilt line (subst (λ z. IsUnbuilt z line.file) goes.files read)
 answer_later words first middle last _ goes (fault line name read rose) =
     fault line name (name_earlier middle.files first.files line.file name goes.files read) (rose_later first.faults middle.faults last.faults goes.faults rose)
@@ -128,6 +140,10 @@ refusal_code text _ (many_tokens h) = refl
 refusal_code text _ (stopped tokens stop listed h) = stop_code stop
 refusal_code text _ (many_uses tokens listed h) = refl
 
+syntax_code : (text : List ℕ) (folded : List Token) (answer : Answer) → IsSyntaxRefusal text folded answer → code_of answer ≡ 3
+syntax_code text folded _ (wrong k h) = refl
+syntax_code text folded _ (deep k h) = refl
+
 module _ (words : List (List ℕ)) (before after : Outside) where
   zero_is : (answer : Answer) → IsAnswer words before after answer → code_of answer ≡ 0 → (files : Files) → before.files ≡ Some files → IsVerifiedFile files words
   zero_is _ (accepted line texts m c task verdict) e files held =
@@ -137,6 +153,7 @@ module _ (words : List (List ℕ)) (before after : Outside) where
   zero_is _ (missing line name read rose absent) e files held = absurd (omega arith)
   zero_is _ (overlong line name read rose longer) e files held = absurd (omega arith)
   zero_is answer (unread line text _ holds refusal) e files held = let three : code_of answer ≡ 3 = refusal_code text answer refusal in absurd (omega arith)
+  zero_is answer (unspelled line text folded _ holds folds refusal) e files held = let three : code_of answer ≡ 3 = syntax_code text folded answer refusal in absurd (omega arith)
   zero_is _ (unbuilt line read) e files held = absurd (omega arith)
   zero_is _ (fault line name read rose) e files held = absurd (omega arith)
   zero_is _ no_memory e files held = absurd (omega arith)
@@ -149,6 +166,7 @@ module _ (words : List (List ℕ)) (before after : Outside) where
   one_is _ (missing line name read rose absent) e files held = absurd (omega arith)
   one_is _ (overlong line name read rose longer) e files held = absurd (omega arith)
   one_is answer (unread line text _ holds refusal) e files held = let three : code_of answer ≡ 3 = refusal_code text answer refusal in absurd (omega arith)
+  one_is answer (unspelled line text folded _ holds folds refusal) e files held = let three : code_of answer ≡ 3 = syntax_code text folded answer refusal in absurd (omega arith)
   one_is _ (unbuilt line read) e files held = absurd (omega arith)
   one_is _ (fault line name read rose) e files held = absurd (omega arith)
   one_is _ no_memory e files held = absurd (omega arith)
@@ -160,6 +178,7 @@ module _ (words : List (List ℕ)) (before after : Outside) where
   two_is _ (missing line name read rose absent) e l = omega arith
   two_is _ (overlong line name read rose longer) e l = omega arith
   two_is answer (unread line text _ holds refusal) e l = let three : code_of answer ≡ 3 = refusal_code text answer refusal in omega arith
+  two_is answer (unspelled line text folded _ holds folds refusal) e l = let three : code_of answer ≡ 3 = syntax_code text folded answer refusal in omega arith
   two_is _ (unbuilt line read) e l = omega arith
   two_is _ (fault line name read rose) e l = omega arith
   two_is _ no_memory e l = omega arith
@@ -171,6 +190,7 @@ module _ (words : List (List ℕ)) (before after : Outside) where
   not_two _ (missing line name read rose absent) none = absurd (none line)
   not_two _ (overlong line name read rose longer) none = absurd (none line)
   not_two _ (unread line text _ holds refusal) none = absurd (none line)
+  not_two _ (unspelled line text folded _ holds folds refusal) none = absurd (none line)
   not_two _ (unbuilt line read) none = absurd (none line)
   not_two _ (fault line name read rose) none = absurd (none line)
   not_two _ no_memory none = inr refl
@@ -182,6 +202,7 @@ module _ (words : List (List ℕ)) (before after : Outside) where
   six_is _ (missing line name read rose absent) e = absurd (omega arith)
   six_is _ (overlong line name read rose longer) e = absurd (omega arith)
   six_is answer (unread line text _ holds refusal) e = let three : code_of answer ≡ 3 = refusal_code text answer refusal in absurd (omega arith)
+  six_is answer (unspelled line text folded _ holds folds refusal) e = let three : code_of answer ≡ 3 = syntax_code text folded answer refusal in absurd (omega arith)
   six_is _ (unbuilt line read) e = absurd (omega arith)
   six_is _ (fault line name read rose) e = rose
   six_is _ no_memory e = absurd (omega arith)

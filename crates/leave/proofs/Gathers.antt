@@ -1,7 +1,8 @@
 -- Lists of expressions with their formulas or registers, one more at the end.
-use Rattle.std.proofs.Common.{◌≡◌, ℕ, ◌<◌, ◌≤◌, Bool, true, false, List, [], ◌∷◌, ◌++◌, length, drop, take, ◌-◌, suc, get_or, sym, ◌∙◌, ap, subst, arith}
-use Rattle.std.specs.Prelude.{Option, Some, None, IfSome, MatchOption, slice_get, bytes_eq, All, filter, cond}
+use Rattle.std.proofs.Common.{◌≡◌, ℕ, zero, ◌<◌, ◌≤◌, Bool, true, false, List, [], ◌∷◌, ◌++◌, length, drop, take, ◌-◌, suc, get_or, refl, sym, ◌∙◌, ap, subst, arith}
+use Rattle.std.specs.Prelude.{Option, Some, None, MatchOption, slice_get, bytes_eq, All, filter, cond, not}
 use Rattle.std.specs.List.{IsDistinct, AllByRecursion, AllZip}
+use Rattle.std.proofs.lemmas.Bool.{false≢true}
 use Rattle.std.proofs.lemmas.List.{take_all}
 use Rattle.std.proofs.lemmas.List.Elements.{All-push}
 use Rattle.std.proofs.lemmas.Map.Keys.{IsDistinct-head, IsDistinct-tail, IsDistinct-cons}
@@ -10,12 +11,13 @@ use Rattle.lv_ast.specs.declared.expr.Expr.{Expr}
 use Rattle.lv_ast.specs.declared.expr.Expr.TheVariants as e
 use Rattle.lv_ast.specs.Names.{Name, Names}
 use Rattle.leave.specs.declared.formula.Formula.{Formula}
-use Rattle.leave.specs.FirstForm.{is_in, scope_of, name}
+use Rattle.leave.specs.FirstForm.{is_in, scope_of, IsRegisterName, register}
 use Rattle.leave.specs.Formulas.{truth, variable}
 use Rattle.leave.specs.Signals.{IsBitOf, AreBitsOf, AreVariablesOf, IsRegister}
 use Rattle.leave.proofs.Truths.{truth-Variable}
-use Rattle.leave.proofs.Numbering.{or_parts}
+use Rattle.leave.proofs.Numbering.{or_parts, bytes_same, same_bytes, distinct-later}
 use Rattle.leave.proofs.Joins.{in-at, register_signal, name_is_bit}
+use Rattle.leave.proofs.Others.{register_parts}
 
 pub all_more : {A : Type 0} (P : A → Type 0) (xs : List A) (x : A) → All P xs → P x → All P (xs ++ x ∷ [])
 all_more P xs x all h = All-push P xs x all h
@@ -36,13 +38,13 @@ module _ (names : Names) (S : List Name) where
 register_at : (Rs Is : List Name) (x : Expr) (path : Path) (k : ℕ) → x ≡ e.Name path [] → path.steps ≡ [] → slice_get Rs k ≡ Some path.name → IsRegister Rs Is x k
 register_at Rs Is x path k is plain at =
     subst (λ (z : Expr). IsRegister Rs Is z k) (sym is) (record {
-      legal = name path plain (in-at Rs k path.name at);
+      legal = register path plain (in-at Rs k path.name at);
       meant = subst (IsBitOf (scope_of Rs Is) (Rs ++ Is) (e.Name path [])) (truth-Variable k) (name_is_bit Rs Is path k (register_signal Rs Is path k plain at)).1;
     })
 
 pub register_found : (Rs Is names : List Name) (x : Expr) (path : Path) (o : Option ℕ) → x ≡ e.Name path [] → path.steps ≡ [] → names ≡ Rs →
-    MatchOption o (is_in names path.name ≡ false) (λ k. slice_get names k ≡ Some path.name) → IfSome o (λ k. IsRegister Rs Is x k)
-register_found Rs Is names x path None is plain e h = tt
+    MatchOption o (is_in names path.name ≡ false) (λ k. slice_get names k ≡ Some path.name) → MatchOption o (IsRegisterName Rs x → ⊥) (λ k. IsRegister Rs Is x k)
+register_found Rs Is names x path None is plain e h = λ r. false≢true (sym (subst (λ z. is_in z path.name ≡ false) e h) ∙ (register_parts Rs x path [] r is).2)
 register_found Rs Is names x path (Some k) is plain e h = register_at Rs Is x path k is plain (subst (λ z. slice_get z k ≡ Some path.name) e h)
 
 -- what is left of distinct names is distinct
@@ -86,3 +88,50 @@ zip_more P [] [] x y all h = (h, tt)
 zip_more P [] (z ∷ ys) x y all h = absurd all
 zip_more P (z ∷ xs) [] x y all h = absurd all
 zip_more P (w ∷ xs) (z ∷ ys) x y all h = (all.0, zip_more P xs ys x y all.1 h)
+
+-- one of them is with none
+pub none_zip : {A B : Type 0} (P : A → B → Type 0) (xs : List A) (k : ℕ) (x : A) → k < length xs → x ≡ get_or xs k x → ((y : B) → P x y → ⊥) → (ys : List B) → AllZip P xs ys → ⊥
+none_zip P [] k x within at none ys all = omega arith
+none_zip P (z ∷ xs) k x within at none [] all = all
+none_zip P (z ∷ xs) zero x within at none (y ∷ ys) all = none y (subst (λ w. P w y) (sym at) all.0)
+none_zip P (z ∷ xs) (suc k) x within at none (y ∷ ys) all = none_zip P xs k x (omega arith) at none ys all.1
+
+-- ---- names that stand once
+
+pub distinct_right : (xs ys : List Name) → IsDistinct bytes_eq (xs ++ ys) → IsDistinct bytes_eq ys
+distinct_right [] ys d = d
+distinct_right (x ∷ xs) ys d = distinct_right xs ys (IsDistinct-tail bytes_eq x (xs ++ ys) d)
+
+other_way : (x y : Name) → bytes_eq x y ≡ false → bytes_eq y x ≡ false
+other_way x y h = (elim (bytes_eq y x) as (λ b. bytes_eq y x ≡ b → b ≡ false) [
+  | true ↦ λ e. absurd (false≢true (sym h ∙ ap (λ z. bytes_eq z y) (sym (bytes_same y x e)) ∙ same_bytes y))
+  | false ↦ λ e. refl
+]) refl
+
+kept_others : (x : Name) (ys : List Name) → AllByRecursion (λ y. bytes_eq x y ≡ false) ys → length (filter (λ y. not (bytes_eq y x)) ys) ≡ length ys
+kept_others x [] all = refl
+kept_others x (y ∷ ys) all = rw (other_way x y all.0) (ap suc (kept_others x ys all.1))
+
+-- without one of them, one is missing at most
+pub kept_count : (x : Name) (ys : List Name) → IsDistinct bytes_eq ys → length ys ≤ suc (length (filter (λ y. not (bytes_eq y x)) ys))
+kept_count x [] d = omega arith
+kept_count x (y ∷ ys) d = (elim (bytes_eq y x) as (λ b. bytes_eq y x ≡ b → suc (length ys) ≤ suc (length (cond (not b) (y ∷ filter (λ z. not (bytes_eq z x)) ys) (filter (λ z. not (bytes_eq z x)) ys)))) [
+  | true ↦ λ e.
+      let same : y ≡ x = bytes_same y x e in
+      let all : AllByRecursion (λ z. bytes_eq x z ≡ false) ys = subst (λ w. AllByRecursion (λ z. bytes_eq w z ≡ false) ys) same (IsDistinct-head bytes_eq y ys d) in
+      omega (arith, kept_others x ys all)
+  | false ↦ λ e. omega (arith, kept_count x ys (IsDistinct-tail bytes_eq y ys d))
+]) refl
+
+pub first_again : (xs : List Name) (x : Name) (k : ℕ) → 1 ≤ length xs → x ≡ get_or xs 0 x → slice_get (take (length xs - 1) (drop 1 xs)) k ≡ Some x → IsDistinct bytes_eq xs → ⊥
+first_again [] x k some is at d = omega arith
+first_again (y ∷ ys) x k some is at d =
+    let e : take (suc (length ys) - 1) ys ≡ ys = let n : suc (length ys) - 1 ≡ length ys = omega arith in ap (λ k. take k ys) n ∙ take_all (length ys) ys (omega arith) in
+    let at' : slice_get ys k ≡ Some y = subst (λ z. slice_get ys k ≡ Some z) is (subst (λ z. slice_get z k ≡ Some x) e at) in
+    false≢true (sym (distinct-later y ys (IsDistinct-head bytes_eq y ys d) k y at') ∙ same_bytes y)
+
+pub distinct_rest : (xs : List Name) → 1 ≤ length xs → IsDistinct bytes_eq xs → IsDistinct bytes_eq (take (length xs - 1) (drop 1 xs))
+distinct_rest [] some d = absurd (omega arith)
+distinct_rest (y ∷ ys) some d =
+    let e : take (suc (length ys) - 1) ys ≡ ys = let n : suc (length ys) - 1 ≡ length ys = omega arith in ap (λ k. take k ys) n ∙ take_all (length ys) ys (omega arith) in
+    subst (IsDistinct bytes_eq) (sym e) (IsDistinct-tail bytes_eq y ys d)

@@ -1,5 +1,6 @@
 -- What the items of a module leave, one after another.
-use Rattle.std.proofs.Common.{◌≡◌, ℕ, Bool, true, false, List, [], ◌∷◌, ◌++◌, length, refl, sym, ◌∙◌, ap, subst, arith}
+use Rattle.std.proofs.Common.{◌≡◌, ℕ, ◌+◌, ◌<◌, ◌≤◌, Bool, true, false, List, [], ◌∷◌, ◌++◌, length, take, drop, get_or, refl, sym, ◌∙◌, ap, subst, arith, length-append}
+use Rattle.std.proofs.lemmas.List.{take_more, take-append-drop}
 use Rattle.std.specs.Prelude.{Some, None, slice_get, bytes_eq}
 use Rattle.std.specs.List.{IsDistinct, list_all}
 use Rattle.std.proofs.lemmas.List.Elements.{All-nil, All-head, All-push}
@@ -34,6 +35,14 @@ no_elements (x ∷ xs) h = absurd (omega arith)
 
 clocked-push : (items : List Item) (x : Item) → clocked (items ++ x ∷ []) ≡ clocked items ++ body_in x
 clocked-push items x = flat_map-append body_in items (x ∷ []) ∙ ap (λ ys. clocked items ++ ys) (nothing_behind (body_in x))
+
+-- what the items up to one leave no more than all
+pub clocked_front : (items : List Item) (k : ℕ) (x : Item) → k < length items → x ≡ get_or items k x → length (clocked (take k items ++ x ∷ [])) ≤ length (clocked items)
+clocked_front items k x within at =
+    let e : take k items ++ x ∷ [] ≡ take (k + 1) items = ap (λ z. take k items ++ z ∷ []) at ∙ sym (take_more items k x within) in
+    let whole : clocked items ≡ clocked (take (k + 1) items) ++ clocked (drop (k + 1) items) =
+    ap clocked (sym (take-append-drop (k + 1) items)) ∙ flat_map-append body_in (take (k + 1) items) (drop (k + 1) items) in
+    omega (arith, ap (λ z. length (clocked z)) e, ap length whole, length-append (clocked (take (k + 1) items)) (clocked (drop (k + 1) items)))
 
 recursion_left : (P : Name → Type 0) (xs ys : List Name) → AllByRecursion P (xs ++ ys) → AllByRecursion P xs
 recursion_left P [] ys all = tt

@@ -9,6 +9,8 @@ pub mod Mirrors
 pub mod Numbering
 pub mod Meanings
 pub mod Joins
+pub mod Opened
+pub mod Others
 pub mod Sameness
 pub mod Assigns
 pub mod Items
@@ -18,7 +20,5 @@ pub mod Verdicts
 pub mod Answering
 pub mod Refusals
 pub mod WordLists
-pub mod Spellings
-pub mod Tails
 pub mod ExpressionTexts
 pub mod ContractTexts

@@ -81,7 +81,7 @@ module _ (texts : ContractTexts) (m : Module) (c : ObserverTrees) where
     pub verdict_yes : IsInductive (machine_of_problem p) 0 (all_of p) × Implies (machine_of_problem p) 0 (all_of p) → IsVerdict texts m c (a.Accepted registers)
     verdict_yes both =
         let source = both_of both in
-        subst (λ z. IsVerdict texts m c (a.Accepted z)) (sym h.registers_are) (proved h.legal h.observers (record {
+        subst (λ z. IsVerdict texts m c (a.Accepted z)) (sym h.registers_are) (proved h.form (record {
           safe = sound M 0 (all_candidates m) source.0 source.1;
           initial = initial_met;
           allowed = allowed_met;
@@ -90,4 +90,4 @@ module _ (texts : ContractTexts) (m : Module) (c : ObserverTrees) where
         }))
 
     pub verdict_no : (IsInductive (machine_of_problem p) 0 (all_of p) × Implies (machine_of_problem p) 0 (all_of p) → ⊥) → IsVerdict texts m c a.Unproved
-    verdict_no no_list = unproved_one h.legal h.observers (λ source. no_list (carried.0 (subst (λ z. IsInductive M 0 z × Implies M 0 z) (sym same_numbers) source)))
+    verdict_no no_list = unproved_one h.form (λ source. no_list (carried.0 (subst (λ z. IsInductive M 0 z × Implies M 0 z) (sym same_numbers) source)))

@@ -7,18 +7,19 @@ use Rattle.lv_io.specs.Causes.{Rose}
 use Rattle.lv_io.specs.Files.{Files, HoldsFile, IsAbsent, IsLonger}
 use Rattle.lv_io.specs.Given.{Gains, GainsPart}
 use Rattle.lv_ast.specs.declared.item.Module.{Module}
+use Rattle.lv_ast.specs.declared.item.Source.{Source}
 use Rattle.lv_ast.specs.Names.{Name}
 use Rattle.lv_ast.specs.Sources.{source_text}
 use Rattle.lv_ast.specs.declared.tokens.Token.{Token}
+use Rattle.lv_parser.specs.Answers.{IsSource}
 use Rattle.lv_model.specs.Machine.{Machine, Safe, IsInductive, Implies, IsMet, Initial, Allowed}
 use Rattle.leave.specs.declared.answer.Answer.{Answer}
 use Rattle.leave.specs.declared.answer.Answer.TheVariants as a
 use Rattle.leave.specs.declared.contract_file.ContractTexts.{ContractTexts}
 use Rattle.leave.specs.declared.observed.ObserverTrees.{ObserverTrees}
 use Rattle.leave.specs.ContractFile.{IsContractFile}
-use Rattle.leave.specs.Spelling.{IsModuleOf}
-use Rattle.leave.specs.Texts.{IsExpressionText, IsFolded, IsDesignText, IsTextRefusal}
-use Rattle.leave.specs.FirstForm.{registers_of, machine_of_module, IsLegal, AreObservers}
+use Rattle.leave.specs.Texts.{IsExpressionText, IsFolded, IsDesignText, IsTextRefusal, IsSyntaxRefusal}
+use Rattle.leave.specs.FirstForm.{registers_of, machine_of_module, IsFirstForm}
 
 -- ---- the words
 
@@ -50,7 +51,7 @@ pub record AreTextsOf (texts : ContractTexts) (c : ObserverTrees) : Type 0 where
   pub attacker : AllZip IsExpressionText texts.attacker c.attacker
   pub equal : AllZip IsExpressionText texts.equal c.equal
 
--- the file is a contract file with these texts, the text of the design files is that of this module, and both are legal for one another
+-- the file is a contract file with these texts, the text of the design file is that of this module alone, and they are of the form that is decided
 pub record IsTask (files : Files) (file : List ℕ) (texts : ContractTexts) (m : Module) (c : ObserverTrees) : Type 0 where
   pub contract_bytes : List ℕ
   pub contract_held : files file ≡ Some contract_bytes
@@ -59,8 +60,7 @@ pub record IsTask (files : Files) (file : List ℕ) (texts : ContractTexts) (m :
   pub design_held : files texts.file ≡ Some design_bytes
   pub design : IsDesignText (source_text (design_bytes ∷ [])) m
   pub expressions : AreTextsOf texts c
-  pub legal : IsLegal m texts.top texts.clock
-  pub observers : AreObservers m texts.clock c
+  pub form : IsFirstForm m texts.top texts.clock c
 
 abbrev pub machine_of : Module → ContractTexts → ObserverTrees → Machine (Name → ℕ)
 machine_of m texts c = machine_of_module m texts.clock c
@@ -105,10 +105,17 @@ pub record HoldsText (files : Option Files) (file text : List ℕ) : Type 0 wher
   pub design_held : HoldsFile texts.file design_bytes files
   pub joined : text ≡ source_text (design_bytes ∷ [])
 
--- what is not decided: a file that is no contract file of the form; or one whose design has tokens that its directives leave
+-- the source is not one module of the form that is decided, or the expressions of the contract file aren't
+pub data IsOther (texts : ContractTexts) (s : Source) : Type 0 where
+  no_trees : ((c : ObserverTrees) → AreTextsOf texts c → ⊥) → IsOther texts s
+  other_count : ((m : Module) → s.modules ≡ m ∷ [] → ⊥) → IsOther texts s
+  other_form : (m : Module) (c : ObserverTrees) → s.modules ≡ m ∷ [] → AreTextsOf texts c → (IsFirstForm m texts.top texts.clock c → ⊥) → IsOther texts s
+
+-- what is not decided: a file that is no contract file of the form; or one whose design spells another source
 pub data IsUnbuilt (files : Option Files) (file : List ℕ) : Type 0 where
   no_contract : (bytes : List ℕ) → HoldsFile file bytes files → ((texts : ContractTexts) → IsContractFile bytes texts → ⊥) → IsUnbuilt files file
-  behind_directives : (text : List ℕ) (folded : List Token) → HoldsText files file text → IsFolded text folded → IsUnbuilt files file
+  behind_syntax : (text : List ℕ) (folded : List Token) (s : Source) (held : HoldsText files file text) → IsFolded text folded → IsSource text folded s →
+      IsOther held.texts s → IsUnbuilt files file
 
 pub data IsAnswer (words : List (List ℕ)) (before after : Outside) : Answer → Type 0 where
   accepted : (line : IsCommandLine words) (texts : ContractTexts) (m : Module) (c : ObserverTrees) →
@@ -122,6 +129,8 @@ pub data IsAnswer (words : List (List ℕ)) (before after : Outside) : Answer �
       Rose before.overlong after.overlong → IsLonger name 4194304 before.files → IsAnswer words before after (a.Overlong name)
   unread : (line : IsCommandLine words) (text : List ℕ) (answer : Answer) → HoldsText before.files line.file text → IsTextRefusal text answer →
       IsAnswer words before after answer
+  unspelled : (line : IsCommandLine words) (text : List ℕ) (folded : List Token) (answer : Answer) → HoldsText before.files line.file text →
+      IsFolded text folded → IsSyntaxRefusal text folded answer → IsAnswer words before after answer
   unbuilt : (line : IsCommandLine words) → IsUnbuilt before.files line.file → IsAnswer words before after a.Unbuilt
   fault : (line : IsCommandLine words) (name : List ℕ) → IsReadName before.files line.file name →
       Rose before.faults after.faults → IsAnswer words before after (a.Fault name)
@@ -134,6 +143,10 @@ line text = text ++ 10 ∷ []
 
 abbrev pub keep_line : Name → List ℕ
 keep_line q = line (codes "keep eq " ++ q)
+
+-- the number of a token, and its place
+abbrev pub placed : ℕ → ℕ → List ℕ
+placed k place = decimal k ++ codes " " ++ decimal place
 
 abbrev pub accepted_text : List Name → List ℕ
 accepted_text registers =
@@ -154,6 +167,8 @@ text_of (a.UnknownMacro place) = line (codes "refused macro " ++ decimal place)
 text_of (a.Unbalanced place) = line (codes "refused unbalanced " ++ decimal place)
 text_of (a.Malformed place) = line (codes "refused malformed " ++ decimal place)
 text_of (a.MacroDepth place) = line (codes "refused macro-depth " ++ decimal place)
+text_of (a.Syntax k place) = line (codes "refused syntax " ++ placed k place)
+text_of (a.Depth k place) = line (codes "refused depth " ++ placed k place)
 text_of a.Unbuilt = line (codes "refused unbuilt")
 text_of (a.Fault name) = line (codes "fault read " ++ name)
 text_of a.NoMemory = []
@@ -172,6 +187,8 @@ code_of (a.UnknownMacro place) = 3
 code_of (a.Unbalanced place) = 3
 code_of (a.Malformed place) = 3
 code_of (a.MacroDepth place) = 3
+code_of (a.Syntax k place) = 3
+code_of (a.Depth k place) = 3
 code_of a.Unbuilt = 3
 code_of (a.Fault name) = 6
 code_of a.NoMemory = 7
@@ -217,18 +234,24 @@ HasFault shelf_before shelf_after sink_before sink_after = Rose shelf_before she
 
 -- the verdict on a module
 pub data IsVerdict (texts : ContractTexts) (m : Module) (c : ObserverTrees) : Answer → Type 0 where
-  proved : IsLegal m texts.top texts.clock → AreObservers m texts.clock c → IsProved m texts c → IsVerdict texts m c (a.Accepted (registers_of m))
-  unproved_one : IsLegal m texts.top texts.clock → AreObservers m texts.clock c → IsUnproved m texts c → IsVerdict texts m c a.Unproved
-  not_of_form : IsVerdict texts m c a.Unbuilt
+  proved : IsFirstForm m texts.top texts.clock c → IsProved m texts c → IsVerdict texts m c (a.Accepted (registers_of m))
+  unproved_one : IsFirstForm m texts.top texts.clock c → IsUnproved m texts c → IsVerdict texts m c a.Unproved
+  not_of_form : (IsFirstForm m texts.top texts.clock c → ⊥) → IsVerdict texts m c a.Unbuilt
+
+-- the verdict on a source
+pub data IsOfSource (texts : ContractTexts) (s : Source) (answer : Answer) : Type 0 where
+  one_module : (m : Module) (c : ObserverTrees) → s.modules ≡ m ∷ [] → AreTextsOf texts c → IsVerdict texts m c answer → IsOfSource texts s answer
+  other : IsOther texts s → answer ≡ a.Unbuilt → IsOfSource texts s answer
 
 -- the verdict on the tokens of a design
-pub data IsSpelled (texts : ContractTexts) (text : List ℕ) (folded : List Token) (answer : Answer) : Type 0 where
-  spelled : (m : Module) (c : ObserverTrees) → AreTextsOf texts c → IsModuleOf text folded m → IsVerdict texts m c answer → IsSpelled texts text folded answer
-  not_spelled : answer ≡ a.Unbuilt → IsSpelled texts text folded answer
+pub data IsOfTokens (texts : ContractTexts) (text : List ℕ) (folded : List Token) (answer : Answer) : Type 0 where
+  of_source : (s : Source) → IsSource text folded s → IsOfSource texts s answer → IsOfTokens texts text folded answer
+  not_spelled : IsSyntaxRefusal text folded answer → IsOfTokens texts text folded answer
+  no_room : answer ≡ a.NoMemory → IsOfTokens texts text folded answer
 
 -- the verdict on a design's text
 pub data IsJudged (texts : ContractTexts) (text : List ℕ) (answer : Answer) : Type 0 where
-  judged : (folded : List Token) → IsFolded text folded → IsSpelled texts text folded answer → IsJudged texts text answer
+  judged : (folded : List Token) → IsFolded text folded → IsOfTokens texts text folded answer → IsJudged texts text answer
   not_folded : IsTextRefusal text answer → IsJudged texts text answer
   unjudged : answer ≡ a.NoMemory → IsJudged texts text answer
 

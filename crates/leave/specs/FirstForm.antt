@@ -1,5 +1,5 @@
 -- The form of design that is decided: one module of one-bit registers and inputs, with one clocked block.
-use Rattle.std.specs.Prelude.{◌≡◌, ℕ, ◌<◌, ◌≤◌, Bool, true, false, not, ◌&&◌, if◌then◌else◌, List, [], ◌∷◌, ◌++◌, map, filter, length, bytes_eq, Option, Some, None, All}
+use Rattle.std.specs.Prelude.{◌≡◌, ℕ, ◌+◌, ◌*◌, ◌<◌, ◌≤◌, Bool, true, false, not, ◌&&◌, if◌then◌else◌, List, [], ◌∷◌, ◌++◌, map, filter, length, bytes_eq, Option, Some, None, All}
 use Rattle.std.specs.List.{list_any, list_all, flat_map, IsDistinct}
 use Rattle.lv_bits.specs.declared.op.Op.{Op}
 use Rattle.lv_bits.specs.declared.op.Op.TheVariants as o
@@ -10,6 +10,7 @@ use Rattle.lv_ast.specs.declared.stmt.Target.TheVariants as t
 use Rattle.lv_ast.specs.declared.stmt.Stmt.{Stmt}
 use Rattle.lv_ast.specs.declared.stmt.Stmt.TheVariants as b
 use Rattle.lv_ast.specs.declared.stmt.Ident.{Ident}
+use Rattle.lv_ast.specs.declared.item.Range.{Range}
 use Rattle.lv_ast.specs.declared.item.PortWord.{PortWord}
 use Rattle.lv_ast.specs.declared.item.PortWord.TheVariants.{Absent, Reg}
 use Rattle.lv_ast.specs.declared.item.Aport.{Aport}
@@ -136,6 +137,10 @@ pub data IsBitExpr (signals : List Name) : Expr → Type 0 where
   inverse : (a : Expr) → IsBitExpr signals a → IsBitExpr signals (e.Un o.Not a)
   joined : (op : Op) (a b : Expr) → is_bitwise op ≡ true → IsBitExpr signals a → IsBitExpr signals b → IsBitExpr signals (e.Bin op a b)
 
+-- the name of a register
+pub data IsRegisterName (registers : List Name) : Expr → Type 0 where
+  register : (path : Path) → path.steps ≡ [] → is_in registers path.name ≡ true → IsRegisterName registers (e.Name path [])
+
 -- a nonblocking assignment to a register
 pub data IsAssignment (registers signals : List Name) : Stmt → Type 0 where
   assigns : (path : Path) (x : Expr) (place : ℕ) → path.steps ≡ [] → is_in registers path.name ≡ true → IsBitExpr signals x → IsAssignment registers signals (b.Later (t.Name path []) x place)
@@ -160,6 +165,9 @@ is_bit_port a = not a.signed && is_none a.range && is_kind_of_port a.output a.wo
 abbrev pub is_bit_register : RegName → Bool
 is_bit_register r = is_none r.bounds
 
+abbrev pub is_bit_declaration : Bool → Option Range → List RegName → Bool
+is_bit_declaration signed range names = not signed && is_none range && list_all is_bit_register names
+
 pub data IsBitItem (clock : Name) (registers signals : List Name) : Item → Type 0 where
   declares : (names : List RegName) → list_all is_bit_register names ≡ true → IsBitItem clock registers signals (i.Reg false None names)
   clocks : (edge : Ident) (body : Stmt) (place : ℕ) → edge.name ≡ clock → IsBody registers signals body → IsBitItem clock registers signals (i.Always (w.Posedge edge) body place)
@@ -176,8 +184,18 @@ pub record IsLegal (m : Module) (top clock : Name) : Type 0 where
   pub distinct : IsDistinct bytes_eq (registers_of m ++ port_names false (port_list m.ports))
 
 -- the expressions read signals alone, and those that an initial pair shares are registers
-pub record AreObservers (m : Module) (clock : Name) (c : ObserverTrees) : Type 0 where
-  pub retire : IsBitExpr (registers_of m ++ inputs_of m clock) c.retire
-  pub contract : All (IsBitExpr (registers_of m ++ inputs_of m clock)) c.contract
-  pub attacker : All (IsBitExpr (registers_of m ++ inputs_of m clock)) c.attacker
-  pub equal : All (IsBitExpr (registers_of m)) c.equal
+pub record AreObservers (registers inputs : List Name) (c : ObserverTrees) : Type 0 where
+  pub retire : IsBitExpr (registers ++ inputs) c.retire
+  pub contract : All (IsBitExpr (registers ++ inputs)) c.contract
+  pub attacker : All (IsBitExpr (registers ++ inputs)) c.attacker
+  pub equal : All (IsRegisterName registers) c.equal
+
+-- the bits that a verdict depends on: each register in both copies, each input in two cycles, and whether the runs are aligned
+abbrev pub free_bits : List Name → List Name → ℕ
+free_bits registers inputs = 2 * length registers + 2 * length inputs + 1
+
+-- a legal module of this form with its observers, and few free bits
+pub record IsFirstForm (m : Module) (top clock : Name) (c : ObserverTrees) : Type 0 where
+  pub legal : IsLegal m top clock
+  pub observers : AreObservers (registers_of m) (inputs_of m clock) c
+  pub few : free_bits (registers_of m) (inputs_of m clock) ≤ 16

@@ -3,7 +3,5 @@ pub mod Formulas
 pub mod Problems
 pub mod FirstForm
 pub mod Signals
-pub mod Spelling
-pub mod Tails
 pub mod Texts
 pub mod Answers

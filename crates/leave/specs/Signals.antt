@@ -19,7 +19,8 @@ use Rattle.lv_ast.specs.Meaning.{meaning}
 use Rattle.lv_ast.specs.Effect.{left_by}
 use Rattle.leave.specs.declared.observed.ObserverTrees.{ObserverTrees}
 use Rattle.leave.specs.declared.problem.Problem.{Problem}
-use Rattle.leave.specs.FirstForm.{scope_of, one_bit, clocked, after, IsAssignment, IsBody, IsBitItem, IsBitExpr, IsLegal, AreObservers, is_in, port_names, register_items, registers_of, inputs_of}
+use Rattle.leave.specs.declared.prepare.Watched.{Watched}
+use Rattle.leave.specs.FirstForm.{scope_of, one_bit, clocked, after, IsAssignment, IsBody, IsBitItem, IsRegisterName, AreObservers, free_bits, IsFirstForm, is_in, port_names, register_items, registers_of, inputs_of}
 use Rattle.leave.specs.declared.formula.Formula.{Formula}
 use Rattle.leave.specs.Formulas.{Assignment, Truth, truth, variable, both, either, differ}
 
@@ -112,7 +113,7 @@ pub record IsProblemOf (registers inputs : List Name) (bodies : List Stmt) (c : 
 
 -- the expression is the register of this number
 pub record IsRegister (registers inputs : List Name) (x : Expr) (k : ℕ) : Type 0 where
-  pub legal : IsBitExpr registers x
+  pub legal : IsRegisterName registers x
   pub meant : IsBitOf (scope_of registers inputs) (registers ++ inputs) x (variable k)
 
 -- the signals of a module, and its names are distinct
@@ -122,19 +123,28 @@ pub record HasSignals (ports : List Aport) (items : List Item) (clock : Name) (r
   pub distinct : IsDistinct bytes_eq (registers ++ port_names false ports)
   pub clock_is_input : is_in (port_names false ports) clock ≡ true
 
--- the problem of a design and its observers, and their legality
-pub record IsBuilt (clock : Name) (registers inputs : List Name) (items : List Item) (c : ObserverTrees) (p : Problem) : Type 0 where
+-- the items and the observers are of the form, and there are few free bits
+pub record IsBitForm (clock : Name) (registers inputs : List Name) (items : List Item) (c : ObserverTrees) : Type 0 where
   pub legal : All (IsBitItem clock registers (registers ++ inputs)) items
   pub one_block : length (clocked items) ≤ 1
-  pub retire : IsBitExpr (registers ++ inputs) c.retire
-  pub contract : All (IsBitExpr (registers ++ inputs)) c.contract
-  pub attacker : All (IsBitExpr (registers ++ inputs)) c.attacker
-  pub equal : All (IsBitExpr registers) c.equal
+  pub observers : AreObservers registers inputs c
+  pub few : free_bits registers inputs ≤ 16
+
+-- the formulas of the observers, which are of the form
+pub record IsWatched (registers inputs : List Name) (c : ObserverTrees) (w : Watched) : Type 0 where
+  pub observers : AreObservers registers inputs c
+  pub retire : IsBitOf (scope_of registers inputs) (registers ++ inputs) c.retire (truth w.retire)
+  pub contract : AreBitsOf (scope_of registers inputs) (registers ++ inputs) c.contract w.contract
+  pub attacker : AreBitsOf (scope_of registers inputs) (registers ++ inputs) c.attacker w.attacker
+  pub equal : AreVariablesOf (scope_of registers inputs) (registers ++ inputs) c.equal w.equal
+
+-- the problem of a design and its observers, which are of the form
+pub record IsBuilt (clock : Name) (registers inputs : List Name) (items : List Item) (c : ObserverTrees) (p : Problem) : Type 0 where
+  pub form : IsBitForm clock registers inputs items c
   pub problem : IsProblemOf registers inputs (clocked items) c p
 
 -- the problem of a module with its observers, all of this form
 pub record IsPrepared (m : Module) (top clock : Name) (c : ObserverTrees) (registers : List Name) (p : Problem) : Type 0 where
-  pub legal : IsLegal m top clock
-  pub observers : AreObservers m clock c
+  pub form : IsFirstForm m top clock c
   pub registers_are : registers ≡ registers_of m
   pub problem : IsProblemOf (registers_of m) (inputs_of m clock) (clocked m.items) c p

@@ -1,7 +1,7 @@
 //! Answers, their statuses and their texts.
 
 ghost use Rattle.std.specs.Prelude.{◌≡◌, ◌++◌, ◌∷◌, [], length, flat_map, decimal, codes, IfOk, OnOk, string_bytes, ℕ, suc};
-ghost use Rattle.leave.specs.Answers.{text_of, code_of, line, keep_line, accepted_text};
+ghost use Rattle.leave.specs.Answers.{text_of, code_of, line, keep_line, accepted_text, placed};
 
 use lv_bits::{NoMemory, Text};
 use sqlite_items::Items;
@@ -36,6 +36,10 @@ pub(crate) enum Answer {
     Malformed(u64),
     /// Uses of macros at this byte are nested too deep.
     MacroDepth(u64),
+    /// No source goes on with the token of this number, at this byte; or none is spelled.
+    Syntax(u64, u64),
+    /// With the token of this number, at this byte, all sources are too deep.
+    Depth(u64, u64),
     /// The contract file or the design isn't of the form that is decided.
     Unbuilt,
     /// The file couldn't be read.
@@ -62,6 +66,8 @@ impl Answer {
             | Answer::Unbalanced(_)
             | Answer::Malformed(_)
             | Answer::MacroDepth(_)
+            | Answer::Syntax(_, _)
+            | Answer::Depth(_, _)
             | Answer::Unbuilt => 3,
             Answer::Fault(_) => 6,
             Answer::NoMemory => 7,
@@ -111,6 +117,26 @@ fn numbered(alloc: Global, start: &[u8], number: u64) -> Result<Vec<u8>, NoMemor
     Ok(text)
 }
 
+/// Two numbers with a space between.
+fn numbers_of(alloc: Global, number: u64, place: u64) -> Result<Vec<u8>, NoMemory>
+    ensures { IfOk result (λ text. text.items ≡ placed number place) }
+{
+    let mut text = decimal_of(alloc, number)?;
+    let place = decimal_of(alloc, place)?;
+    text.extend_from_slice(b" ")?;
+    text.extend_from_slice(&place)?;
+    Ok(text)
+}
+
+/// The number of a token, and its place.
+fn located(alloc: Global, start: &[u8], number: u64, place: u64) -> Result<Vec<u8>, NoMemory>
+    ensures { IfOk result (λ text. text.items ≡ line (start.now ++ placed number place)) }
+{
+    let numbers = numbers_of(alloc, number, place)?;
+    let text = one_line(alloc, start, &numbers)?;
+    Ok(text)
+}
+
 fn accepted(alloc: Global, registers: &[Text]) -> Result<Vec<u8>, NoMemory>
     ensures { IfOk result (λ text. text.items ≡ accepted_text registers.now) }
 {
@@ -142,6 +168,8 @@ pub(crate) fn text(alloc: Global, answer: &Answer) -> Result<Vec<u8>, NoMemory>
         Answer::Unbalanced(place) => numbered(alloc, b"refused unbalanced ", *place),
         Answer::Malformed(place) => numbered(alloc, b"refused malformed ", *place),
         Answer::MacroDepth(place) => numbered(alloc, b"refused macro-depth ", *place),
+        Answer::Syntax(number, place) => located(alloc, b"refused syntax ", *number, *place),
+        Answer::Depth(number, place) => located(alloc, b"refused depth ", *number, *place),
         Answer::Unbuilt => one_line(alloc, b"refused unbuilt", b""),
         Answer::Fault(name) => one_line(alloc, b"fault read ", name.bytes()),
         Answer::NoMemory => Err(NoMemory),

@@ -1,8 +1,8 @@
 //! The formulas of a design's expressions.
 
-ghost use Rattle.std.specs.Prelude.{◌≡◌, ◌++◌, true, [], IfOk, IfSome};
+ghost use Rattle.std.specs.Prelude.{◌≡◌, ◌↔◌, ◌++◌, true, [], IfOk, IsTrue, MatchOption};
 ghost use Rattle.lv_bits.specs.declared.op.Op.TheVariants as o;
-ghost use Rattle.leave.specs.FirstForm.{IsBitExpr, scope_of};
+ghost use Rattle.leave.specs.FirstForm.{IsBitExpr, is_bitwise, scope_of};
 ghost use Rattle.leave.specs.Formulas.{truth, negated};
 ghost use Rattle.leave.specs.Signals.{IsBitOf, IsJoinedBy};
 
@@ -13,7 +13,7 @@ use lv_bits::{NoMemory, Op};
 use std::alloc::Global;
 
 fn is_inverse(op: Op) -> bool
-    ensures { result ≡ true → op ≡ o.Not }
+    ensures { IsTrue result ↔ op ≡ o.Not }
 {
     match op {
         Op::Not => true,
@@ -24,7 +24,7 @@ fn is_inverse(op: Op) -> bool
 /// Both formulas joined by the operator, where it is a bitwise one.
 #[tactic(auto, using(crate::proofs::Joins::joins))]
 fn joined(alloc: Global, op: Op, a: Formula, b: Formula) -> Result<Option<Formula>, NoMemory>
-    ensures { IfOk result (λ f. IfSome f (λ f. IsJoinedBy op (truth a) (truth b) (truth f))) }
+    ensures { IfOk result (λ answer. MatchOption answer (is_bitwise op ≡ true → ⊥) (λ f. IsJoinedBy op (truth a) (truth b) (truth f))) }
 {
     match op {
         Op::And => {
@@ -45,7 +45,7 @@ fn joined(alloc: Global, op: Op, a: Formula, b: Formula) -> Result<Option<Formul
 
 /// The inverse of an operand's formula, where the operator is `~`.
 fn inverted(alloc: Global, op: Op, a: Formula) -> Result<Option<Formula>, NoMemory>
-    ensures { IfOk result (λ f. IfSome f (λ f. (op ≡ o.Not) × (truth f ≡ negated (truth a)))) }
+    ensures { IfOk result (λ answer. MatchOption answer (op ≡ o.Not → ⊥) (λ f. (op ≡ o.Not) × (truth f ≡ negated (truth a)))) }
 {
     if !is_inverse(op) {
         return Ok(None);
@@ -55,7 +55,7 @@ fn inverted(alloc: Global, op: Op, a: Formula) -> Result<Option<Formula>, NoMemo
 }
 
 fn formula_of_name(signals: &Signals, path: &Path) -> Option<Formula>
-    ensures { IfSome result (λ f.
+    ensures { MatchOption result (IsBitExpr (signals.now.registers ++ signals.now.inputs) (Expr.Name path.now []) → ⊥) (λ f.
         IsBitExpr (signals.now.registers ++ signals.now.inputs) (Expr.Name path.now []) ×
         IsBitOf (scope_of signals.now.registers signals.now.inputs) (signals.now.registers ++ signals.now.inputs) (Expr.Name path.now []) (truth f)) }
 {
@@ -69,7 +69,7 @@ pub(crate) fn formula_of(
     signals: &Signals,
     expr: &Expr,
 ) -> Result<Option<Formula>, NoMemory>
-    ensures { IfOk result (λ f. IfSome f (λ f.
+    ensures { IfOk result (λ answer. MatchOption answer (IsBitExpr (signals.now.registers ++ signals.now.inputs) expr.now → ⊥) (λ f.
         IsBitExpr (signals.now.registers ++ signals.now.inputs) expr.now ×
         IsBitOf (scope_of signals.now.registers signals.now.inputs) (signals.now.registers ++ signals.now.inputs) expr.now (truth f))) }
 {

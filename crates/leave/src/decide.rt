@@ -1,21 +1,22 @@
 //! From the words and the files to the answer.
 
-ghost use Rattle.std.specs.Prelude.{◌≡◌, ℕ, List, IfOk, IfErr};
+ghost use Rattle.std.specs.Prelude.{◌≡◌, ◌∷◌, [], ℕ, List, IfOk, IfErr, MatchOption};
 ghost use Rattle.lv_io.specs.Files.{HoldsFile};
-ghost use Rattle.leave.specs.Answers.{IsAnswer, IsVerdict, IsSpelled, IsJudged, IsRefusal, IsCause, Goes, AsksFor};
+ghost use Rattle.lv_ast.specs.declared.item.Module as code;
+ghost use Rattle.leave.specs.Answers.{IsAnswer, IsVerdict, IsOfSource, IsOfTokens, IsJudged, IsRefusal, IsCause, Goes, AsksFor};
 ghost use Rattle.leave.specs.ContractFile.{IsContractFile};
 
 use crate::answer::Answer;
 use crate::contract_file::{ContractTexts, read_contract_texts};
-use crate::design_text::read_module;
 use crate::folded::folded;
 use crate::observed::ObserverTrees;
 use crate::prepare::{Prepared, prepare};
 use crate::signals::Signals;
+use crate::spelled::spelled;
 use crate::trees::read_trees;
 use crate::verdict::is_accepted;
 use crate::words::{Words, file_of};
-use lv_ast::{Module, Tokens};
+use lv_ast::{Module, Source, Tokens};
 use lv_bits::{Bytes, NoMemory, Text};
 use lv_io::{Shelf, ShelfError};
 use std::alloc::Global;
@@ -48,18 +49,41 @@ fn judge_module(
     }
 }
 
-/// The verdict on the tokens of a design.
-fn judge_tokens(alloc: Global, texts: &ContractTexts, tokens: &Tokens) -> Result<Answer, NoMemory>
-    ensures { IfOk result (λ answer. IsSpelled texts.now tokens.now.text tokens.now.list answer) }
+/// The only module of a source.
+fn only_module(source: &Source) -> Option<&Module>
+    ensures { MatchOption result ((m : code.Module) → source.now.modules ≡ m ∷ [] → ⊥) (λ m. source.now.modules ≡ m.now ∷ []) }
+{
+    match source.modules.as_slice() {
+        [design] => Some(design),
+        _ => None,
+    }
+}
+
+/// The verdict on a source.
+fn judge_source(alloc: Global, texts: &ContractTexts, source: &Source) -> Result<Answer, NoMemory>
+    ensures { IfOk result (λ answer. IsOfSource texts.now source.now answer) }
 {
     let Some(trees) = read_trees(alloc, texts)? else {
         return Ok(Answer::Unbuilt);
     };
-    let Some(design) = read_module(alloc, tokens)? else {
+    let Some(design) = only_module(source) else {
         return Ok(Answer::Unbuilt);
     };
-    let answer = judge_module(alloc, texts, &design, &trees)?;
+    let answer = judge_module(alloc, texts, design, &trees)?;
     Ok(answer)
+}
+
+/// The verdict on the tokens of a design.
+fn judge_tokens(alloc: Global, texts: &ContractTexts, tokens: &Tokens) -> Answer
+    ensures { IsOfTokens texts.now tokens.now.text tokens.now.list result }
+{
+    match spelled(alloc, tokens) {
+        Err(answer) => answer,
+        Ok(source) => match judge_source(alloc, texts, &source) {
+            Ok(answer) => answer,
+            Err(NoMemory) => Answer::NoMemory,
+        },
+    }
 }
 
 /// The verdict on a design's text.
@@ -68,10 +92,7 @@ fn judge(alloc: Global, texts: &ContractTexts, text: &[u8]) -> Answer
 {
     match folded(alloc, text) {
         Err(answer) => answer,
-        Ok(tokens) => match judge_tokens(alloc, texts, &tokens) {
-            Ok(answer) => answer,
-            Err(NoMemory) => Answer::NoMemory,
-        },
+        Ok(tokens) => judge_tokens(alloc, texts, &tokens),
     }
 }
 

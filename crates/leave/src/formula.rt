@@ -133,6 +133,18 @@ pub(crate) fn implication(alloc: Global, a: Formula, b: Formula) -> Result<Formu
     Ok(f)
 }
 
+/// A variable, or its value where it is the one that is fixed.
+#[tactic(auto, using(crate::proofs::Truths::truths))]
+fn fixed_variable(other: usize, number: usize, value: bool) -> Formula
+    ensures { truth result ≡ fixing number value (variable other) }
+{
+    if other == number {
+        Formula::Constant(value)
+    } else {
+        Formula::Variable(other)
+    }
+}
+
 /// The formula with one variable fixed.
 #[tactic(auto, using(crate::proofs::Truths::truths))]
 pub(crate) fn fixed(
@@ -145,13 +157,7 @@ pub(crate) fn fixed(
 {
     match formula {
         Formula::Constant(bit) => Ok(Formula::Constant(*bit)),
-        Formula::Variable(other) => {
-            if *other == number {
-                Ok(Formula::Constant(value))
-            } else {
-                Ok(Formula::Variable(*other))
-            }
-        }
+        Formula::Variable(other) => Ok(fixed_variable(*other, number, value)),
         Formula::Not(a) => {
             let a = fixed(alloc, a.get(), number, value)?;
             let f = negation(alloc, a)?;

@@ -5,24 +5,20 @@ mod answer;
 mod build;
 mod contract_file;
 mod decide;
-mod design_text;
 mod expression_text;
 mod folded;
 mod formula;
-mod module_items;
 mod next;
 mod observed;
-mod ports;
 mod prepare;
 mod problem;
 mod queries;
-mod reading;
 #[cfg(test)]
 mod rows;
 mod run;
 mod signals;
+mod spelled;
 mod splitter;
-mod statements;
 #[cfg(test)]
 mod tests;
 mod trees;

@@ -1,17 +1,18 @@
 //! The next values of the registers, from the clocked block.
 
-ghost use Rattle.std.specs.Prelude.{◌≡◌, ◌∷◌, ◌++◌, [], ℕ, List, true, false, length, slice_get, slice_set, IfOk, IfSome, bytes_eq};
+ghost use Rattle.std.specs.Prelude.{◌≡◌, ◌≤◌, ◌↔◌, ◌∷◌, ◌++◌, [], ℕ, List, length, slice_get, All, IfOk, IsTrue, MatchOption, bytes_eq};
 ghost use Rattle.std.specs.List.{list_all, IsDistinct};
 ghost use Rattle.lv_ast.specs.declared.stmt.Stmt as code;
 ghost use Rattle.lv_ast.specs.declared.item.Item as item_code;
 ghost use Rattle.leave.specs.declared.formula.Formula as formula;
-ghost use Rattle.leave.specs.FirstForm.{is_bit_register};
+ghost use Rattle.leave.specs.FirstForm as spec;
+ghost use Rattle.leave.specs.FirstForm.{is_bit_register, IsAssignment, IsBody, IsBitItem, clocked};
 ghost use Rattle.leave.specs.Signals.{IsNext, IsBodyNext, AreItemsNext, IsClockedBy};
 
 use crate::build::formula_of;
 use crate::formula::Formula;
 use crate::signals::{Signals, find};
-use lv_ast::{Expr, Item, Path, RegName, Stmt, Target, Watch};
+use lv_ast::{Expr, Item, Path, Range, RegName, Stmt, Target, Watch};
 use lv_bits::{NoMemory, Text};
 use sqlite_items::Items;
 use std::alloc::Global;
@@ -36,8 +37,10 @@ fn assign_to(
     path: &Path,
     value: &Expr,
 ) -> Result<Option<Items<Formula>>, NoMemory>
-    ensures { IfOk result (λ o. IfSome o (λ new. (body : List code.Stmt) (place : ℕ) →
-        IsNext signals.now.registers signals.now.inputs body next →
+    ensures { IfOk result (λ o. MatchOption o
+        ((body : List code.Stmt) (place : ℕ) → IsNext signals.now.registers signals.now.inputs body next →
+        IsAssignment signals.now.registers (signals.now.registers ++ signals.now.inputs) (Stmt.Later (Target.Name path.now []) value.now place) → ⊥)
+        (λ new. (body : List code.Stmt) (place : ℕ) → IsNext signals.now.registers signals.now.inputs body next →
         IsNext signals.now.registers signals.now.inputs (body ++ Stmt.Later (Target.Name path.now []) value.now place ∷ []) new)) }
 {
     if !path.steps.is_empty() {
@@ -65,8 +68,10 @@ fn assign_target(
     target: &Target,
     value: &Expr,
 ) -> Result<Option<Items<Formula>>, NoMemory>
-    ensures { IfOk result (λ o. IfSome o (λ new. (body : List code.Stmt) (place : ℕ) →
-        IsNext signals.now.registers signals.now.inputs body next →
+    ensures { IfOk result (λ o. MatchOption o
+        ((body : List code.Stmt) (place : ℕ) → IsNext signals.now.registers signals.now.inputs body next →
+        IsAssignment signals.now.registers (signals.now.registers ++ signals.now.inputs) (Stmt.Later target.now value.now place) → ⊥)
+        (λ new. (body : List code.Stmt) (place : ℕ) → IsNext signals.now.registers signals.now.inputs body next →
         IsNext signals.now.registers signals.now.inputs (body ++ Stmt.Later target.now value.now place ∷ []) new)) }
 {
     match target {
@@ -87,8 +92,10 @@ fn assign(
     next: Items<Formula>,
     stmt: &Stmt,
 ) -> Result<Option<Items<Formula>>, NoMemory>
-    ensures { IfOk result (λ o. IfSome o (λ new. (body : List code.Stmt) →
-        IsNext signals.now.registers signals.now.inputs body next →
+    ensures { IfOk result (λ o. MatchOption o
+        ((body : List code.Stmt) → IsNext signals.now.registers signals.now.inputs body next →
+        IsAssignment signals.now.registers (signals.now.registers ++ signals.now.inputs) stmt.now → ⊥)
+        (λ new. (body : List code.Stmt) → IsNext signals.now.registers signals.now.inputs body next →
         IsNext signals.now.registers signals.now.inputs (body ++ stmt.now ∷ []) new)) }
 {
     match stmt {
@@ -104,8 +111,10 @@ fn assign_all(
     start: Items<Formula>,
     body: &[Stmt],
 ) -> Result<Option<Items<Formula>>, NoMemory>
-    ensures { IfOk result (λ o. IfSome o (λ new.
-        IsNext signals.now.registers signals.now.inputs [] start → IsNext signals.now.registers signals.now.inputs body.now new)) }
+    ensures { IfOk result (λ o. MatchOption o
+        (IsNext signals.now.registers signals.now.inputs [] start →
+        All (IsAssignment signals.now.registers (signals.now.registers ++ signals.now.inputs)) body.now → ⊥)
+        (λ new. IsNext signals.now.registers signals.now.inputs [] start → IsNext signals.now.registers signals.now.inputs body.now new)) }
 {
     let mut next = start;
     for stmt in body {
@@ -124,8 +133,10 @@ fn body_next(
     start: Items<Formula>,
     body: &Stmt,
 ) -> Result<Option<Items<Formula>>, NoMemory>
-    ensures { IfOk result (λ o. IfSome o (λ new.
-        IsNext signals.now.registers signals.now.inputs [] start → IsBodyNext signals.now.registers signals.now.inputs body.now new)) }
+    ensures { IfOk result (λ o. MatchOption o
+        (IsNext signals.now.registers signals.now.inputs [] start →
+        IsBody signals.now.registers (signals.now.registers ++ signals.now.inputs) body.now → ⊥)
+        (λ new. IsNext signals.now.registers signals.now.inputs [] start → IsBodyNext signals.now.registers signals.now.inputs body.now new)) }
 {
     match body {
         Stmt::Block(name, stmts) => match name {
@@ -149,8 +160,14 @@ fn have_no_bounds(names: &[RegName]) -> bool
     names.iter().all(|name| name.bounds.is_none())
 }
 
+fn is_bit_declaration(signed: bool, range: &Option<Range>, names: &[RegName]) -> bool
+    ensures { result ≡ spec.is_bit_declaration signed range.now names.now }
+{
+    !signed && range.is_none() && have_no_bounds(names)
+}
+
 fn is_clocked_by(watch: &Watch, clock: &Text) -> bool
-    ensures { result ≡ true → IsClockedBy watch.now clock.now }
+    ensures { IsTrue result ↔ IsClockedBy watch.now clock.now }
 {
     match watch {
         Watch::Posedge(edge) => edge.name == *clock,
@@ -166,19 +183,25 @@ fn item_next(
     progress: Progress,
     item: &Item,
 ) -> Result<Option<Progress>, NoMemory>
-    ensures { IfOk result (λ o. IfSome o (λ new. (items : List item_code.Item) →
-        AreItemsNext clock.now signals.now.registers signals.now.inputs items progress.found progress.next →
+    ensures { IfOk result (λ o. MatchOption o
+        ((items : List item_code.Item) → AreItemsNext clock.now signals.now.registers signals.now.inputs items progress.found progress.next →
+        IsBitItem clock.now signals.now.registers (signals.now.registers ++ signals.now.inputs) item.now →
+        length (clocked (items ++ item.now ∷ [])) ≤ 1 → ⊥)
+        (λ new. (items : List item_code.Item) → AreItemsNext clock.now signals.now.registers signals.now.inputs items progress.found progress.next →
         AreItemsNext clock.now signals.now.registers signals.now.inputs (items ++ item.now ∷ []) new.found new.next)) }
 {
     match item {
         Item::Reg(signed, range, names) => {
-            if *signed || range.is_some() || !have_no_bounds(names.as_slice()) {
+            if !is_bit_declaration(*signed, range, names.as_slice()) {
                 return Ok(None);
             }
             Ok(Some(progress))
         }
         Item::Always(watch, body, _) => {
-            if progress.found || !is_clocked_by(watch, clock) {
+            if progress.found {
+                return Ok(None);
+            }
+            if !is_clocked_by(watch, clock) {
                 return Ok(None);
             }
             match body_next(alloc, signals, progress.next, body)? {
@@ -197,7 +220,10 @@ pub(crate) fn items_next(
     clock: &Text,
     items: &[Item],
 ) -> Result<Option<Progress>, NoMemory>
-    ensures { IfOk result (λ o. IfSome o (λ new. IsDistinct bytes_eq (signals.now.registers ++ signals.now.inputs) →
+    ensures { IfOk result (λ o. MatchOption o
+        (IsDistinct bytes_eq (signals.now.registers ++ signals.now.inputs) →
+        All (IsBitItem clock.now signals.now.registers (signals.now.registers ++ signals.now.inputs)) items.now → length (clocked items.now) ≤ 1 → ⊥)
+        (λ new. IsDistinct bytes_eq (signals.now.registers ++ signals.now.inputs) →
         AreItemsNext clock.now signals.now.registers signals.now.inputs items.now new.found new.next)) }
 {
     let mut progress = Progress {

@@ -1,9 +1,9 @@
 //! From a module and its observers to the formulas that are decided.
 
-ghost use Rattle.std.specs.Prelude.{◌≡◌, ◌++◌, [], ℕ, List, ◌≤◌, ◌*◌, ◌+◌, true, not, All, filter, bytes_eq, length, map, IfOk, IfSome, OnOk};
+ghost use Rattle.std.specs.Prelude.{◌≡◌, ◌↔◌, ◌++◌, [], ℕ, List, ◌≤◌, ◌*◌, ◌+◌, not, All, filter, bytes_eq, length, map, IfOk, IsTrue, MatchOption, OnOk};
 ghost use Rattle.std.specs.List.{list_all, IsDistinct};
-ghost use Rattle.leave.specs.FirstForm.{IsBitExpr, scope_of, port_names, register_items, registers_in, is_bit_port, is_kind_of_port};
-ghost use Rattle.leave.specs.Signals.{AreBitsOf, AreVariablesOf, IsRegister, HasSignals, IsBuilt, IsPrepared};
+ghost use Rattle.leave.specs.FirstForm.{IsBitExpr, IsRegisterName, AreObservers, IsFirstForm, free_bits, scope_of, port_names, register_items, is_bit_port, is_kind_of_port};
+ghost use Rattle.leave.specs.Signals.{AreBitsOf, AreVariablesOf, IsRegister, HasSignals, IsWatched, IsBitForm, IsBuilt, IsPrepared};
 
 use crate::build::formula_of;
 use crate::formula::Formula;
@@ -23,13 +23,23 @@ pub(crate) struct Prepared {
     pub(crate) signals: Signals,
 }
 
+/// The formulas of the observers.
+#[derive(Drop)]
+pub(crate) struct Watched {
+    pub(crate) retire: Formula,
+    pub(crate) contract: Items<Formula>,
+    pub(crate) attacker: Items<Formula>,
+    /// The registers that an initial pair shares.
+    pub(crate) equal: Items<usize>,
+}
+
 /// The formulas of expressions, in order.
 fn formulas_of(
     alloc: Global,
     signals: &Signals,
     exprs: &[Expr],
 ) -> Result<Option<Items<Formula>>, NoMemory>
-    ensures { IfOk result (λ o. IfSome o (λ fs.
+    ensures { IfOk result (λ o. MatchOption o (All (IsBitExpr (signals.now.registers ++ signals.now.inputs)) exprs.now → ⊥) (λ fs.
         All (IsBitExpr (signals.now.registers ++ signals.now.inputs)) exprs.now ×
         AreBitsOf (scope_of signals.now.registers signals.now.inputs) (signals.now.registers ++ signals.now.inputs) exprs.now fs)) }
 {
@@ -45,11 +55,15 @@ fn formulas_of(
 
 /// The number of the register that an expression is.
 fn register_of(signals: &Signals, expr: &Expr) -> Option<usize>
-    ensures { IfSome result (λ k. IsRegister signals.now.registers signals.now.inputs expr.now k) }
+    ensures { MatchOption result (IsRegisterName signals.now.registers expr.now → ⊥)
+        (λ k. IsRegister signals.now.registers signals.now.inputs expr.now k) }
 {
     match expr {
         Expr::Name(path, selects) => {
-            if !selects.is_empty() || !path.steps.is_empty() {
+            if !selects.is_empty() {
+                return None;
+            }
+            if !path.steps.is_empty() {
                 return None;
             }
             find(signals.registers.as_slice(), &path.name)
@@ -64,8 +78,8 @@ fn registers_of(
     signals: &Signals,
     exprs: &[Expr],
 ) -> Result<Option<Items<usize>>, NoMemory>
-    ensures { IfOk result (λ o. IfSome o (λ ks.
-        All (IsBitExpr signals.now.registers) exprs.now ×
+    ensures { IfOk result (λ o. MatchOption o (All (IsRegisterName signals.now.registers) exprs.now → ⊥) (λ ks.
+        All (IsRegisterName signals.now.registers) exprs.now ×
         AreVariablesOf (scope_of signals.now.registers signals.now.inputs) (signals.now.registers ++ signals.now.inputs) exprs.now ks)) }
 {
     let mut numbers = Items::new(alloc);
@@ -115,7 +129,7 @@ fn without(alloc: Global, names: &[Text], name: &Text) -> Result<Items<Text>, No
 /// Whether no name stands twice among a few.
 fn are_distinct(names: &[Text]) -> bool
     requires { length names.now ≤ 64 }
-    ensures { result ≡ true → IsDistinct bytes_eq names.now }
+    ensures { IsTrue result ↔ IsDistinct bytes_eq names.now }
 {
     match names {
         [] => true,
@@ -159,9 +173,12 @@ fn push_texts(alloc: Global, texts: &mut Items<Text>, more: &[Text]) -> Result<(
 
 /// Whether no name stands twice in both lists together, where these are short.
 fn are_apart(alloc: Global, names: &[Text], more: &[Text]) -> Result<bool, NoMemory>
-    ensures { IfOk result (λ yes. yes ≡ true → IsDistinct bytes_eq (names.now ++ more.now)) }
+    ensures { IfOk result (λ yes. IsTrue yes ↔ (length names.now ≤ 32) × (length more.now ≤ 32) × IsDistinct bytes_eq (names.now ++ more.now)) }
 {
-    if names.len() > 32 || more.len() > 32 {
+    if names.len() > 32 {
+        return Ok(false);
+    }
+    if more.len() > 32 {
         return Ok(false);
     }
     let mut all = Items::new(alloc);
@@ -177,7 +194,9 @@ fn collect(
     items: &[Item],
     clock: &Text,
 ) -> Result<Option<Signals>, NoMemory>
-    ensures { IfOk result (λ o. IfSome o (λ s. HasSignals ports.now items.now clock.now s.registers s.inputs)) }
+    ensures { IfOk result (λ o. MatchOption o
+        ((registers inputs : List (List ℕ)) → HasSignals ports.now items.now clock.now registers inputs → free_bits registers inputs ≤ 16 → ⊥)
+        (λ s. HasSignals ports.now items.now clock.now s.registers s.inputs)) }
 {
     let mut registers = names_of_ports(alloc, ports, true)?;
     push_items(alloc, &mut registers, items)?;
@@ -192,28 +211,15 @@ fn collect(
     Ok(Some(Signals { registers, inputs }))
 }
 
-/// The problem, where all expressions are of this form and there are at most 16 free bits.
-fn build(
+/// The formulas of the observers.
+fn observe(
     alloc: Global,
     signals: &Signals,
-    clock: &Text,
-    items: &[Item],
     trees: &ObserverTrees,
-) -> Result<Option<Problem>, NoMemory>
-    ensures { IfOk result (λ o. IfSome o (λ p. IsDistinct bytes_eq (signals.now.registers ++ signals.now.inputs) →
-        IsBuilt clock.now signals.now.registers signals.now.inputs items.now trees.now p)) }
+) -> Result<Option<Watched>, NoMemory>
+    ensures { IfOk result (λ o. MatchOption o (AreObservers signals.now.registers signals.now.inputs trees.now → ⊥)
+        (IsWatched signals.now.registers signals.now.inputs trees.now)) }
 {
-    let registers = signals.registers.len();
-    let inputs = signals.inputs.len();
-    if registers > 8 || inputs > 8 || 2 * registers + 2 * inputs + 1 > 16 {
-        return Ok(None);
-    }
-    let Some(progress) = items_next(alloc, signals, clock, items)? else {
-        return Ok(None);
-    };
-    if progress.next.len() != registers {
-        return Ok(None);
-    }
     let Some(retire) = formula_of(alloc, signals, &trees.retire)? else {
         return Ok(None);
     };
@@ -226,6 +232,53 @@ fn build(
     let Some(equal) = registers_of(alloc, signals, trees.equal.as_slice())? else {
         return Ok(None);
     };
+    Ok(Some(Watched {
+        retire,
+        contract,
+        attacker,
+        equal,
+    }))
+}
+
+/// Whether there are at most 16 free bits.
+fn are_few(registers: usize, inputs: usize) -> bool
+    ensures { IsTrue result ↔ 2 * registers + 2 * inputs + 1 ≤ 16 }
+{
+    registers <= 8 && inputs <= 8 && 2 * registers + 2 * inputs + 1 <= 16
+}
+
+/// The problem, where the items and the observers are of this form and there are at most 16 free bits.
+fn build(
+    alloc: Global,
+    signals: &Signals,
+    clock: &Text,
+    items: &[Item],
+    trees: &ObserverTrees,
+) -> Result<Option<Problem>, NoMemory>
+    ensures { IfOk result (λ o. IsDistinct bytes_eq (signals.now.registers ++ signals.now.inputs) → MatchOption o
+        (IsBitForm clock.now signals.now.registers signals.now.inputs items.now trees.now → ⊥)
+        (IsBuilt clock.now signals.now.registers signals.now.inputs items.now trees.now)) }
+{
+    let registers = signals.registers.len();
+    let inputs = signals.inputs.len();
+    if !are_few(registers, inputs) {
+        return Ok(None);
+    }
+    let Some(progress) = items_next(alloc, signals, clock, items)? else {
+        return Ok(None);
+    };
+    if progress.next.len() != registers {
+        return Ok(None);
+    }
+    let Some(watched) = observe(alloc, signals, trees)? else {
+        return Ok(None);
+    };
+    let Watched {
+        retire,
+        contract,
+        attacker,
+        equal,
+    } = watched;
     Ok(Some(Problem {
         registers,
         inputs,
@@ -244,8 +297,9 @@ fn with_ports(
     clock: &Text,
     trees: &ObserverTrees,
 ) -> Result<Option<Prepared>, NoMemory>
-    ensures { IfOk result (λ o. IfSome o (λ p. (top : List ℕ) → design.now.name.name ≡ top → design.now.params ≡ [] → design.now.ports ≡ Ports.Declared ports.now →
-        IsPrepared design.now top clock.now trees.now p.signals.registers p.problem)) }
+    ensures { IfOk result (λ o. (top : List ℕ) → design.now.name.name ≡ top → design.now.params ≡ [] → design.now.ports ≡ Ports.Declared ports.now →
+        MatchOption o (IsFirstForm design.now top clock.now trees.now → ⊥)
+        (λ p. IsPrepared design.now top clock.now trees.now p.signals.registers p.problem)) }
 {
     if !are_one_bit(ports) {
         return Ok(None);
@@ -267,7 +321,8 @@ pub(crate) fn prepare(
     clock: &Text,
     trees: &ObserverTrees,
 ) -> Result<Option<Prepared>, NoMemory>
-    ensures { IfOk result (λ o. IfSome o (λ p. IsPrepared design.now top.now clock.now trees.now p.signals.registers p.problem)) }
+    ensures { IfOk result (λ o. MatchOption o (IsFirstForm design.now top.now clock.now trees.now → ⊥)
+        (λ p. IsPrepared design.now top.now clock.now trees.now p.signals.registers p.problem)) }
 {
     if design.name.name != *top || !design.params.is_empty() {
         return Ok(None);

@@ -31,6 +31,47 @@ const ACCEPTED: &[u8] = b"accepted\nlookahead 0\nkept 2\nkeep eq q\nkeep aligned
 
 const USAGE: &[u8] = b"usage: leave MODE FILE [--out NAME]\n";
 
+const UNBUILT: &[u8] = b"refused unbuilt\n";
+
+// What the grammar refuses, with the number of a token and its place; then what is of the grammar and not of the form.
+const SOURCES: &[(&[u8], &[u8])] = &[
+    (b"", b"refused syntax 0 0\n"),
+    (b"// none\n", b"refused syntax 0 8\n"),
+    (
+        b"module t(input clk)\nendmodule\n",
+        b"refused syntax 6 20\n",
+    ),
+    (b"module module", b"refused syntax 1 7\n"),
+    (b"module t; wire a", b"refused syntax 5 16\n"),
+    (
+        b"`define E endmodule\nmodule t; `E `E",
+        b"refused syntax 4 10\n",
+    ),
+    (
+        b"module t; assign a = 4'b1?; endmodule",
+        b"refused syntax 7 22\n",
+    ),
+    (b"module t; endmodule", UNBUILT),
+    (b"module t(clk); input clk; endmodule", UNBUILT),
+    (
+        b"module t(input clk, output reg q); assign q = clk; endmodule",
+        UNBUILT,
+    ),
+    (
+        b"module t(input clk, output reg [1:0] q); endmodule",
+        UNBUILT,
+    ),
+    (
+        b"module t(input clk, output reg q); endmodule module u; endmodule",
+        UNBUILT,
+    ),
+    (
+        b"module t(input clk, output reg q); always @(posedge clk) q = q; endmodule",
+        UNBUILT,
+    ),
+    (b"module u(input clk, output reg q); endmodule", UNBUILT),
+];
+
 fn words_of(alloc: Global, list: &[&[u8]]) -> Result<Words, NoMemory> {
     let mut words = Items::new(alloc);
     for word in list {
@@ -107,7 +148,7 @@ fn rows_of_refused_texts(rt: HostRuntime) -> Result<(), Fail> {
     let alloc = rt.alloc();
     let verify = [b"verify".as_slice(), b"a.toml".as_slice()];
     let lines = vec![in alloc; b'\n'; 500_001]?;
-    let rows: [(&[u8], &[u8]); 14] = [
+    let rows: [(&[u8], &[u8]); 12] = [
         (b"a \"", b"refused byte 2\n"),
         (
             b" 340282366920938463463374607431768211456",
@@ -123,8 +164,6 @@ fn rows_of_refused_texts(rt: HostRuntime) -> Result<(), Fail> {
         (b"module module \"", b"refused byte 14\n"),
         (b"`X /*", b"refused unclosed 3\n"),
         (b"module module `X", b"refused macro 14\n"),
-        (b"module module", b"refused unbuilt\n"),
-        (b"", b"refused unbuilt\n"),
     ];
     for (design, text) in rows {
         assert!(rt;
@@ -134,6 +173,52 @@ fn rows_of_refused_texts(rt: HostRuntime) -> Result<(), Fail> {
             )
         );
     }
+    Ok(())
+}
+
+#[test]
+fn rows_of_sources(rt: HostRuntime) -> Result<(), Fail> {
+    let alloc = rt.alloc();
+    let verify = [b"verify".as_slice(), b"a.toml".as_slice()];
+    for row in SOURCES {
+        let (design, text) = *row;
+        assert!(rt;
+            matches!(
+                gives(alloc, &verify, CONTRACT, Some(design), 3, text),
+                Ok(true)
+            )
+        );
+    }
+    Ok(())
+}
+
+// A design whose register's next value is so many `~` before a name.
+fn inverted(alloc: Global, count: usize) -> Result<Vec<u8>, NoMemory> {
+    let mut value = Vec::new(alloc);
+    for _ in 0..count {
+        value.extend_from_slice(b"~")?;
+    }
+    value.extend_from_slice(b"q")?;
+    assigns(alloc, &value)
+}
+
+fn is_answered(alloc: Global, count: usize, code: u8, text: &[u8]) -> Result<bool, NoMemory> {
+    let verify = [b"verify".as_slice(), b"a.toml".as_slice()];
+    let design = inverted(alloc, count)?;
+    gives(alloc, &verify, CONTRACT, Some(&design), code, text)
+}
+
+// A name is 1 high, and each `~` makes it one higher.
+#[test]
+fn heights(rt: HostRuntime) -> Result<(), Fail> {
+    let alloc = rt.alloc();
+    assert!(rt; matches!(is_answered(alloc, 199, 0, ACCEPTED), Ok(true)));
+    assert!(rt;
+        matches!(
+            is_answered(alloc, 200, 3, b"refused depth 221 272\n"),
+            Ok(true)
+        )
+    );
     Ok(())
 }
 
@@ -183,38 +268,49 @@ fn assigns(alloc: Global, value: &[u8]) -> Result<Vec<u8>, NoMemory> {
     Ok(design)
 }
 
-// The same expression in the contract file and in the design.
-fn answers(alloc: Global, expression: &[u8], code: u8, text: &[u8]) -> Result<bool, NoMemory> {
+// An expression in the contract file, and in the design.
+fn answers(
+    alloc: Global,
+    expression: &[u8],
+    code: u8,
+    in_contract: &[u8],
+    in_design: &[u8],
+) -> Result<bool, NoMemory> {
     let verify = [b"verify".as_slice(), b"a.toml".as_slice()];
     let contract = retires_at(alloc, expression)?;
     let design = assigns(alloc, expression)?;
-    let in_contract = gives(alloc, &verify, &contract, Some(DESIGN), code, text)?;
-    let in_design = gives(alloc, &verify, CONTRACT, Some(&design), code, text)?;
-    Ok(in_contract && in_design)
+    let first = gives(alloc, &verify, &contract, Some(DESIGN), code, in_contract)?;
+    let second = gives(alloc, &verify, CONTRACT, Some(&design), code, in_design)?;
+    Ok(first && second)
 }
 
 #[test]
 fn rows_of_expressions(rt: HostRuntime) -> Result<(), Fail> {
     let alloc = rt.alloc();
     let unbuilt = b"refused unbuilt\n".as_slice();
-    let rows: [(&[u8], u8, &[u8]); 14] = [
-        (b"q", 0, ACCEPTED),
-        (b"~(q | d) & q ^ d", 0, ACCEPTED),
-        (b"((q)) ^ +d", 0, ACCEPTED),
-        (b"q |", 3, unbuilt),
-        (b"q d", 3, unbuilt),
-        (b"clk", 3, unbuilt),
-        (b"e", 3, unbuilt),
-        (b"u.q", 3, unbuilt),
-        (b"q[0]", 3, unbuilt),
-        (b"&q", 3, unbuilt),
-        (b"q ~^ d", 3, unbuilt),
-        (b"q ? d : q", 3, unbuilt),
-        (b"q && d", 3, unbuilt),
-        (b"1'b1", 3, unbuilt),
+    let rows: [(&[u8], u8, &[u8], &[u8]); 14] = [
+        (b"q", 0, ACCEPTED, ACCEPTED),
+        (b"~(q | d) & q ^ d", 0, ACCEPTED, ACCEPTED),
+        (b"((q)) ^ +d", 0, ACCEPTED, ACCEPTED),
+        (b"q |", 3, unbuilt, b"refused syntax 24 76\n"),
+        (b"q d", 3, unbuilt, b"refused syntax 23 75\n"),
+        (b"clk", 3, unbuilt, unbuilt),
+        (b"e", 3, unbuilt, unbuilt),
+        (b"u.q", 3, unbuilt, b"refused syntax 23 74\n"),
+        (b"q[0]", 3, unbuilt, unbuilt),
+        (b"&q", 3, unbuilt, unbuilt),
+        (b"q ~^ d", 3, unbuilt, unbuilt),
+        (b"q ? d : q", 3, unbuilt, unbuilt),
+        (b"q && d", 3, unbuilt, unbuilt),
+        (b"1'b1", 3, unbuilt, unbuilt),
     ];
-    for (expression, code, text) in rows {
-        assert!(rt; matches!(answers(alloc, expression, code, text), Ok(true)));
+    for (expression, code, in_contract, in_design) in rows {
+        assert!(rt;
+            matches!(
+                answers(alloc, expression, code, in_contract, in_design),
+                Ok(true)
+            )
+        );
     }
     Ok(())
 }

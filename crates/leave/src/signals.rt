@@ -1,6 +1,6 @@
 //! The signals of a design and their numbers.
 
-ghost use Rattle.std.specs.Prelude.{◌≡◌, false, true, IfSome, IfOk, MatchOption, OnOk, slice_get, ◌++◌};
+ghost use Rattle.std.specs.Prelude.{◌≡◌, [], false, true, IfOk, MatchOption, OnOk, slice_get, ◌++◌};
 ghost use Rattle.leave.specs.FirstForm.{is_in, ident_names, port_names, register_items};
 ghost use Rattle.leave.specs.Signals.{IsSignal};
 
@@ -31,7 +31,8 @@ pub(crate) fn find(names: &[Text], name: &Text) -> Option<usize>
 impl Signals {
     /// The number of the signal that a path names.
     pub(crate) fn number(&self, path: &Path) -> Option<usize>
-        ensures { IfSome result (λ k. IsSignal self.now.registers self.now.inputs path.now k) }
+        ensures { MatchOption result (path.now.steps ≡ [] → is_in (self.now.registers ++ self.now.inputs) path.now.name ≡ true → ⊥)
+            (λ k. IsSignal self.now.registers self.now.inputs path.now k) }
     {
         if !path.steps.is_empty() {
             return None;

@@ -1,7 +1,9 @@
 //! The expressions of a contract file, read from its texts.
 
-ghost use Rattle.std.specs.Prelude.{IfOk, IfSome};
+ghost use Rattle.std.specs.Prelude.{List, IfOk, MatchOption};
 ghost use Rattle.std.specs.List.{AllZip};
+ghost use Rattle.lv_ast.specs.declared.expr.Expr as code;
+ghost use Rattle.leave.specs.declared.observed.ObserverTrees as spec;
 ghost use Rattle.leave.specs.Texts.{IsExpressionText};
 ghost use Rattle.leave.specs.Answers.{AreTextsOf};
 
@@ -14,7 +16,7 @@ use sqlite_items::Items;
 use std::alloc::Global;
 
 fn read_all(alloc: Global, texts: &[Text]) -> Result<Option<Items<Expr>>, NoMemory>
-    ensures { IfOk result (λ xs. IfSome xs (λ xs. AllZip IsExpressionText texts.now xs)) }
+    ensures { IfOk result (λ o. MatchOption o ((xs : List code.Expr) → AllZip IsExpressionText texts.now xs → ⊥) (AllZip IsExpressionText texts.now)) }
 {
     let mut exprs = Items::new(alloc);
     for text in texts {
@@ -26,12 +28,12 @@ fn read_all(alloc: Global, texts: &[Text]) -> Result<Option<Items<Expr>>, NoMemo
     Ok(Some(exprs))
 }
 
-/// The trees that the texts of a contract file spell.
+/// The trees that the texts of a contract file spell, where each spells one.
 pub(crate) fn read_trees(
     alloc: Global,
     texts: &ContractTexts,
 ) -> Result<Option<ObserverTrees>, NoMemory>
-    ensures { IfOk result (λ c. IfSome c (λ c. AreTextsOf texts.now c)) }
+    ensures { IfOk result (λ o. MatchOption o ((c : spec.ObserverTrees) → AreTextsOf texts.now c → ⊥) (AreTextsOf texts.now)) }
 {
     let Some(retire) = read_expression_text(alloc, texts.retire.bytes())? else {
         return Ok(None);

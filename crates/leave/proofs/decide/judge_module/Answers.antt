@@ -1,10 +1,11 @@
 use Rattle.std.proofs.Common.{◌≡◌, true}
 use Rattle.leave.specs.Answers.{not_of_form}
+use Rattle.leave.proofs.Others.{is_none}
 use Rattle.leave.proofs.Verdicts.{verdict_yes, verdict_no}
 use Rattle.leave.proofs.decide.judge_module.Goals as goal
 
 pub returns-in_default : goal.returns-in_default
-returns-in_default c = not_of_form
+returns-in_default c = not_of_form (rw (is_none _ c.in_default.not-Some) at c.in_ok-prepared.ensures)
 
 pub returns-then-accepted : goal.returns-then-accepted
 returns-then-accepted c =

@@ -1,8 +1,5 @@
-use Rattle.leave.specs.Answers.{spelled}
+use Rattle.leave.specs.Answers.{of_source}
 use Rattle.leave.proofs.decide.judge_tokens.Goals as goal
 
-pub returns : goal.returns
-returns c =
-    let trees = rw c.in-Some.is at c.in_ok-trees.ensures in
-    let design = rw c.in-Some-2.is at c.in_ok-design.ensures in
-    spelled c.in-Some-2.design c.in-Some.trees trees design c.in_ok-answer.ensures
+pub returns-in-Ok-judge_source : goal.returns-in-Ok-judge_source
+returns-in-Ok-judge_source c = of_source c.in-Ok.source c.in-Ok.ensures.source c.in-Ok-judge_source.ensures

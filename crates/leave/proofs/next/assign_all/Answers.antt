@@ -2,6 +2,8 @@ use Rattle.std.proofs.Common.{◌≡◌, ◌+◌, ◌∷◌, ◌++◌, [], List,
 use Rattle.std.proofs.lemmas.List.{take_more}
 use Rattle.lv_ast.specs.declared.stmt.Stmt.{Stmt}
 use Rattle.leave.specs.Signals.{IsNext}
+use Rattle.leave.specs.FirstForm.{IsAssignment}
+use Rattle.leave.proofs.Others.{all_at}
 use Rattle.leave.proofs.next.assign_all.Goals as goal
 
 pub loop-stmt-preserved : goal.loop-stmt-preserved
@@ -12,3 +14,11 @@ loop-stmt-preserved c = λ start.
     take_more body k c.stmt-item.result c.loop-stmt-test.true ∙ ap (λ z. take k body ++ z ∷ []) (sym c.stmt-item.is) in
     let step = rw c.in-Some.is at c.in_ok-after.ensures in
     subst (λ (z : List Stmt). IsNext c.args.signals.now.registers c.args.signals.now.inputs z c.in-Some.after) (sym e) (step (take k body) (c.loop-stmt.invariant start))
+
+pub returns-in-None : goal.returns-in-None
+returns-in-None c = λ start all.
+    let Rs = c.args.signals.now.registers in
+    let Is = c.args.signals.now.inputs in
+    let none = rw c.in-None.is at c.in_ok-after.ensures in
+    none (take c.loop-stmt.stmt-index c.args.body.now) (c.loop-stmt.invariant start)
+    (all_at (IsAssignment Rs (Rs ++ Is)) c.args.body.now c.loop-stmt.stmt-index c.stmt-item.result c.loop-stmt-test.true c.stmt-item.is all)

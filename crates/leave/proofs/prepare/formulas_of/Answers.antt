@@ -6,6 +6,7 @@ use Rattle.leave.specs.declared.formula.Formula.{Formula}
 use Rattle.leave.specs.FirstForm.{IsBitExpr, scope_of}
 use Rattle.leave.specs.Signals.{AreBitsOf}
 use Rattle.leave.proofs.Gathers.{all_more, bits_more}
+use Rattle.leave.proofs.Others.{all_at}
 use Rattle.leave.proofs.prepare.formulas_of.Goals as goal
 
 pub loop-expr-preserved : goal.loop-expr-preserved
@@ -23,3 +24,8 @@ loop-expr-preserved c =
           (subst (λ (z : List Expr). AreBitsOf names S z (c.loop-expr.formulas ++ c.in-Some.formula ∷ [])) (sym e)
           (bits_more names S (take k xs) c.loop-expr.formulas c.expr-item.result c.in-Some.formula c.loop-expr.invariant.meant h.1));
     }
+
+pub returns-in-None : goal.returns-in-None
+returns-in-None c = λ all.
+    let none = rw c.in-None.is at c.in_ok-formula.ensures in
+    none (all_at (IsBitExpr (c.args.signals.now.registers ++ c.args.signals.now.inputs)) c.args.exprs.now c.loop-expr.expr-index c.expr-item.result c.loop-expr-test.true c.expr-item.is all)

@@ -1,11 +1,11 @@
 use Rattle.std.proofs.Common.{◌++◌, take}
 use Rattle.std.specs.Prelude.{All}
-use Rattle.leave.specs.FirstForm.{IsBitExpr, scope_of}
+use Rattle.leave.specs.FirstForm.{IsRegisterName, scope_of}
 use Rattle.leave.specs.Signals.{AreVariablesOf}
 use Rattle.leave.proofs.prepare.registers_of.Given as goal
 
 abbrev pub invariant-loop-expr : goal.invariant-loop-expr
 invariant-loop-expr l = record {
-  legal : All (IsBitExpr l.signals.registers) (take l.expr-index l.exprs);
+  legal : All (IsRegisterName l.signals.registers) (take l.expr-index l.exprs);
   meant : AreVariablesOf (scope_of l.signals.registers l.signals.inputs) (l.signals.registers ++ l.signals.inputs) (take l.expr-index l.exprs) l.numbers;
 }

@@ -3,7 +3,7 @@ use Rattle.std.specs.List.{AllZip}
 use Rattle.std.proofs.lemmas.List.{take_more}
 use Rattle.lv_ast.specs.declared.expr.Expr.{Expr}
 use Rattle.leave.specs.Texts.{IsExpressionText}
-use Rattle.leave.proofs.Gathers.{zip_more}
+use Rattle.leave.proofs.Gathers.{zip_more, none_zip}
 use Rattle.leave.proofs.trees.read_all.Goals as goal
 
 pub loop-text-preserved : goal.loop-text-preserved
@@ -16,3 +16,9 @@ loop-text-preserved c =
     let pushed : c.push.new.self ≡ c.loop-text.exprs ++ c.in-Some.expr ∷ [] = c.in_ok-push-in-Some.ensures.ok in
     subst (λ (z : List Expr). AllZip IsExpressionText (take (k + 1) xs) z) (sym pushed)
     (subst (λ z. AllZip IsExpressionText z (c.loop-text.exprs ++ c.in-Some.expr ∷ [])) (sym e) (zip_more IsExpressionText (take k xs) c.loop-text.exprs c.text-item.result c.in-Some.expr c.loop-text.invariant spelled))
+
+pub returns-in-None : goal.returns-in-None
+returns-in-None c = λ zs all.
+    let h = rw c.in-None.is at c.in_ok-expr.ensures in
+    none_zip IsExpressionText c.args.texts.now c.loop-text.text-index c.text-item.result c.loop-text-test.true c.text-item.is
+    (subst (λ z. (x : Expr) → IsExpressionText z x → ⊥) c.bytes.ensures h) zs all

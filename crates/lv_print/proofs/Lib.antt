@@ -1,0 +1,3 @@
+pub mod DigitRules
+pub mod Finished
+pub mod Papers

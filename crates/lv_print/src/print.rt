@@ -1,0 +1,19 @@
+ghost use Rattle.std.specs.Prelude.{◌≡◌, IfOk};
+ghost use Rattle.lv_print.specs.Written.{text_of};
+ghost use Rattle.lv_print.specs.Expressions.{expr_tokens};
+
+use crate::expr::expr;
+use crate::paper::Paper;
+use lv_ast::Expr;
+use lv_bits::{NoMemory, Text};
+use std::alloc::Global;
+
+#[tactic(auto, using(crate::proofs::Finished::finished))]
+/// The canonical text of an expression.
+pub fn print_expr(alloc: Global, tree: &Expr) -> Result<Text, NoMemory>
+    ensures { IfOk result (λ t. t ≡ text_of (expr_tokens tree.now)) }
+{
+    let mut paper = Paper::new(alloc);
+    expr(&mut paper, alloc, tree)?;
+    paper.text(alloc)
+}

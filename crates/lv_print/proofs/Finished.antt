@@ -1,5 +1,5 @@
 -- The text on a paper is the text of its tokens.
-use Rattle.std.proofs.Common.{◌≡◌, ℕ, Bool, true, false, ◌&&◌, if◌then◌else◌, List, [], ◌∷◌, ◌++◌, refl, sym, ap, ◌∙◌, append_assoc}
+use Rattle.std.proofs.Common.{◌≡◌, ℕ, Bool, true, false, ◌&&◌, if◌then◌else◌, List, [], ◌∷◌, ◌++◌, refl, sym, ap, ◌∙◌, append_assoc, append-nil}
 use Rattle.lv_ast.specs.declared.tokens.Kind.{Kind}
 use Rattle.lv_ast.specs.declared.tokens.Kind.TheVariants as k
 use Rattle.lv_print.specs.declared.last.Last.TheVariants as last
@@ -58,7 +58,7 @@ whole p = p.bytes ++ end_gap p.last
 
 behind : (p : Paper) (w : Written) (ws : List Written) → whole (with_tokens p (w ∷ ws)) ≡ (p.bytes ++ gap p.last w.kind) ++ text_of (w ∷ ws)
 unfolding with_tokens put text_of
-behind p w [] = append_assoc (p.bytes ++ gap p.last w.kind) w.bytes (end_gap (last_of w)) ∙ ap (λ z. (p.bytes ++ gap p.last w.kind) ++ (w.bytes ++ z)) (ends w)
+behind p w [] = append_assoc (p.bytes ++ gap p.last w.kind) w.bytes (end_gap (last_of w)) ∙ ap (λ z. (p.bytes ++ gap p.last w.kind) ++ (w.bytes ++ z)) (ends w ∙ sym (append-nil (ending w)))
 behind p w (v ∷ vs) =
     behind (put p w) v vs ∙ ap (λ z. (((p.bytes ++ gap p.last w.kind) ++ w.bytes) ++ z) ++ text_of (v ∷ vs)) (betweens w v) ∙
     append_assoc ((p.bytes ++ gap p.last w.kind) ++ w.bytes) (between w v) (text_of (v ∷ vs)) ∙ append_assoc (p.bytes ++ gap p.last w.kind) w.bytes (between w v ++ text_of (v ∷ vs))

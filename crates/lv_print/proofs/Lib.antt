@@ -1,3 +1,5 @@
 pub mod DigitRules
 pub mod Finished
 pub mod Papers
+pub mod Stops
+pub mod Tokenized

@@ -4,3 +4,4 @@ pub mod Paper
 pub mod Literals
 pub mod Expressions
 pub mod Unplaced
+pub mod Reads

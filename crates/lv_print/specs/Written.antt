@@ -60,7 +60,11 @@ between w v = if ends_line w then 10 ∷ [] else (if is_size w v then [] else 32
 abbrev pub ending : Written → List ℕ
 ending w = if ends_line w then 10 ∷ [] else (if is_kind w.kind k.Escaped then 32 ∷ [] else [])
 
+-- what stands behind a token, in front of the next one or at the end
+abbrev pub behind : Written → List Written → List ℕ
+behind w [] = ending w
+behind w (v ∷ vs) = between w v
+
 unfoldable pub text_of : List Written → List ℕ
 text_of [] = []
-text_of (w ∷ []) = w.bytes ++ ending w
-text_of (w ∷ v ∷ ws) = w.bytes ++ (between w v ++ text_of (v ∷ ws))
+text_of (w ∷ ws) = w.bytes ++ (behind w ws ++ text_of ws)

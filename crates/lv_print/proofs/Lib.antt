@@ -3,3 +3,8 @@ pub mod Finished
 pub mod Papers
 pub mod Stops
 pub mod Tokenized
+pub mod LiteralBack
+pub mod Spelled
+pub mod UnplacedRules
+pub mod TreeBack
+pub mod ExprBack

@@ -36,7 +36,8 @@ use Rattle.lv_print.specs.Unplaced as unplaced
 use Rattle.lv_print.proofs.UnplacedRules.{unplaced-Lit, unplaced-Name, unplaced-Bin, unplaced-Div, unplaced-Rem, unplaced-Bit, unplaced-Part, unplaced-Up, unplaced-Down}
 use Rattle.lv_print.proofs.Papers.{tokens-Lit, tokens-Name, tokens-Bin, tokens-Div, tokens-Rem, tokens-Bit, tokens-Part, tokens-Up, tokens-Down, joined-none, joined-more}
 use Rattle.lv_print.proofs.Tokenized.{IsWhole, AreWhole, Are}
-use Rattle.lv_print.proofs.LiteralBack.{Apart, IsGiven, GivesBack, cut_by, apart_cut, number_whole, number_back, based_whole, based_back}
+use Rattle.lv_print.proofs.FreeBack.{Apart}
+use Rattle.lv_print.proofs.LiteralBack.{IsGiven, GivesBack, cut_by, apart_cut, number_whole, number_back, based_whole, based_back}
 use Rattle.lv_print.proofs.Spelled.{IsWritable, whole_mark, whole_name, whole_append, Behind, behind_of, Cut, cut_of, Enclosed, enclosed, Middle, middle, IsNamed, name_at, at_mark, at_written, spells_cons, spells_append}
 use Rattle.lv_print.proofs.TreeBack.{is_number, number, middle_whole, brackets_whole, TreeAgain, TreeBack, ListAgain, ListBack, one_tree, list_of_one, list_snoc, unary_back, infix_back, choice_back, brace_back, repeat_back, cast_back}
 

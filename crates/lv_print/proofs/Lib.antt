@@ -8,3 +8,5 @@ pub mod Spelled
 pub mod UnplacedRules
 pub mod TreeBack
 pub mod ExprBack
+pub mod DigitBack
+pub mod FreeBack

@@ -10,3 +10,4 @@ pub mod TreeBack
 pub mod ExprBack
 pub mod DigitBack
 pub mod FreeBack
+pub mod GoodTokens

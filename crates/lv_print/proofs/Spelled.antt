@@ -142,13 +142,13 @@ module _ (text : List ℕ) where
     pub bytes : bytes_of text name ≡ s
 
   -- the bytes behind the first
-  slice-behind : (xs : List ℕ) (a b c : ℕ) (s : List ℕ) → slice_range xs a b ≡ c ∷ s → slice_range xs (a + 1) b ≡ s
-  slice-behind xs a b c s h =
+  pub slice_behind : (xs : List ℕ) (a b c : ℕ) (s : List ℕ) → slice_range xs a b ≡ c ∷ s → slice_range xs (a + 1) b ≡ s
+  slice_behind xs a b c s h =
       let n : b - (a + 1) ≡ (b - a) - 1 = omega arith in
       ap (λ z. take z (drop (a + 1) xs)) n ∙ ap (take ((b - a) - 1)) (sym (drop-one a xs)) ∙ tail-take (b - a) c (drop a xs) s h
 
-  slice-long : (xs : List ℕ) (a b c : ℕ) (s : List ℕ) → slice_range xs a b ≡ c ∷ s → a < b
-  slice-long xs a b c s h = let k : 0 < b - a = some-take (b - a) c (drop a xs) s h in omega (arith, k)
+  pub slice_long : (xs : List ℕ) (a b c : ℕ) (s : List ℕ) → slice_range xs a b ≡ c ∷ s → a < b
+  slice_long xs a b c s h = let k : 0 < b - a = some-take (b - a) c (drop a xs) s h in omega (arith, k)
 
   name-at : (t : Token) (s : List ℕ) (b : Bool) → IsAt text t (if b then written k.Name s else written k.Escaped (92 ∷ s)) → IsNamed t s
   name-at t s true h = record {
@@ -160,10 +160,10 @@ module _ (text : List ℕ) where
     name = record { place = t.start; start = behind t.start; end = t.end };
     symbol = at-symbol t (written k.Escaped (92 ∷ s)) h;
     bytes =
-      let less : t.start < t.end = slice-long text t.start t.end 92 s h.bytes in
+      let less : t.start < t.end = slice_long text t.start t.end 92 s h.bytes in
       let small : t.end < 2 ^ 64 = h.small in
       let e : behind t.start ≡ t.start + 1 = omega (arith, less, small) in
-      ap (λ z. slice_range text z t.end) e ∙ slice-behind text t.start t.end 92 s h.bytes;
+      ap (λ z. slice_range text z t.end) e ∙ slice_behind text t.start t.end 92 s h.bytes;
   }
 
   pub name_at : (t : Token) (s : List ℕ) → IsAt text t (name s) → IsNamed t s

@@ -521,6 +521,13 @@ module _ (old : List ℕ) (p : Bool) where
           };
       }
 
+  -- ---- literals with free bits
+
+  pub literal_back : (x : Form) → is_free x ≡ true → AllGood old (text x) → LiteralBack x
+  literal_back (based b) f h = based-literal-back b h.0
+  literal_back (sized n b) f h = sized-literal-back n b h.0 h.1.0
+  literal_back _ f h = absurd (true≢false (sym f))
+
   -- ---- all forms
 
   pub record Back (x : Form) : Type 0 where

@@ -11,3 +11,4 @@ pub mod ExprBack
 pub mod DigitBack
 pub mod FreeBack
 pub mod GoodTokens
+pub mod ExprLaw

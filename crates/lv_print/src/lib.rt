@@ -4,6 +4,7 @@
 mod expr;
 mod keywords;
 mod last;
+mod laws;
 mod literal;
 mod names;
 mod paper;
@@ -11,4 +12,5 @@ mod print;
 #[cfg(test)]
 mod tests;
 
+pub use laws::exprs_read_back;
 pub use print::print_expr;

@@ -1,4 +1,4 @@
-ghost use Rattle.std.specs.Prelude.{◌≡◌, ◌++◌, [], ◌∷◌, OnOk, IfOk};
+ghost use Rattle.std.specs.Prelude.{◌≡◌, ◌^◌, ◌<◌, ◌++◌, [], ◌∷◌, length, OnOk, IfOk};
 ghost use Rattle.lv_print.specs.Paper as paper;
 ghost use Rattle.lv_print.specs.Written as written;
 
@@ -120,7 +120,8 @@ impl Paper {
 
     /// The text that is written.
     pub fn text(&self, alloc: Global) -> Result<Text, NoMemory>
-        ensures { IfOk result (λ t. t ≡ self.now.bytes ++ paper.end_gap self.now.last) }
+        ensures bytes { IfOk result (λ t. t ≡ self.now.bytes ++ paper.end_gap self.now.last) }
+        ensures bound { IfOk result (λ t. length t < 2 ^ 64) }
     {
         let mut bytes = Items::new(alloc);
         push_all(&mut bytes, self.bytes.as_slice())?;

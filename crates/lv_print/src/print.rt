@@ -1,6 +1,7 @@
-ghost use Rattle.std.specs.Prelude.{◌≡◌, IfOk};
+ghost use Rattle.std.specs.Prelude.{◌≡◌, IfOk, Bool};
 ghost use Rattle.lv_print.specs.Written.{text_of};
 ghost use Rattle.lv_print.specs.Expressions.{expr_tokens};
+ghost use Rattle.lv_print.specs.Reads.{IsSpelledExpr, ReadsBackExpr};
 
 use crate::expr::expr;
 use crate::paper::Paper;
@@ -11,7 +12,8 @@ use std::alloc::Global;
 #[tactic(auto, using(crate::proofs::Finished::finished))]
 /// The canonical text of an expression.
 pub fn print_expr(alloc: Global, tree: &Expr) -> Result<Text, NoMemory>
-    ensures { IfOk result (λ t. t ≡ text_of (expr_tokens tree.now)) }
+    ensures text { IfOk result (λ t. t ≡ text_of (expr_tokens tree.now)) }
+    ensures reads_back { IfOk result (λ t. (p : Bool) → IsSpelledExpr p tree.now → ReadsBackExpr p tree.now t) }
 {
     let mut paper = Paper::new(alloc);
     expr(&mut paper, alloc, tree)?;

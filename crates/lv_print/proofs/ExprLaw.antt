@@ -31,8 +31,8 @@ pub record ExprBack (p : Bool) (x : Expr) : Type 0 where
   pub whole : AreWhole (expr_tokens x)
   pub again : (bytes : List ℕ) (ts : List Token) → Are bytes ts (expr_tokens x) → ExprAgain p bytes ts x
 
-of-tree : (p : Bool) (x : Expr) → TreeBack p x → ExprBack p x
-of-tree p x h = record {
+pub tree_of : (p : Bool) (x : Expr) → TreeBack p x → ExprBack p x
+tree_of p x h = record {
   whole = h.whole;
   again = λ bytes ts a.
     let q : TreeAgain p bytes ts x = h.again bytes ts a in
@@ -54,7 +54,7 @@ free-back old p (sized n b) f h = of-literal old p (sized n b) f (literal_back o
 free-back old p _ f h = absurd (true≢false (sym f))
 
 pub expr_back : (old : List ℕ) (p : Bool) (x : Form) → IsExpr p x → AllGood old (forms.text x) → ExprBack p (tree old x)
-expr_back old p x (inl v) h = of-tree p (tree old x) ((back old p x v.0 h).as_tree v.1)
+expr_back old p x (inl v) h = tree_of p (tree old x) ((back old p x v.0 h).as_tree v.1)
 expr_back old p x (inr f) h = free-back old p x f h
 
 pub exprs_read_back : ExprsReadBack

@@ -201,9 +201,9 @@ writable-by s false e h = record { kind = ap (λ (b : Bool). kind_of (if b then 
 escaped-by : (xs : List ℕ) → kind_of (92 ∷ xs) ≡ Some k.Escaped → IsWritable xs
 escaped-by xs h = writable-by xs (is_simple xs) refl (λ _. h)
 
-name-writable : (s : List ℕ) → kind_of s ≡ Some k.Name → IsWritable s
-name-writable [] h = absurd (none-some k.Name (sym no-bytes ∙ h))
-name-writable (x ∷ xs) h = writable-by (x ∷ xs) (is_simple (x ∷ xs)) refl (λ f. absurd (true≢false (sym (simple-name x xs h) ∙ f)))
+pub name_writable : (s : List ℕ) → kind_of s ≡ Some k.Name → IsWritable s
+name_writable [] h = absurd (none-some k.Name (sym no-bytes ∙ h))
+name_writable (x ∷ xs) h = writable-by (x ∷ xs) (is_simple (x ∷ xs)) refl (λ f. absurd (true≢false (sym (simple-name x xs h) ∙ f)))
 
 escaped-first : (x : ℕ) (xs : List ℕ) → kind_of (x ∷ xs) ≡ Some k.Escaped → x ≡ 92
 escaped-first x xs h =
@@ -217,6 +217,11 @@ escaped-first x xs h =
       | by_line e ↦ absurd (not-kind _ k.Line k.Escaped refl e)
       | by_mark e ↦ absurd (not-kind _ k.Mark k.Escaped refl e)
     ]
+
+-- an escaped name, by its whole token
+pub escaped_writable : (s : List ℕ) → kind_of s ≡ Some k.Escaped → IsWritable (tok.tail s)
+escaped_writable [] h = absurd (none-some k.Escaped (sym no-bytes ∙ h))
+escaped_writable (x ∷ xs) h = escaped-by xs (subst (λ z. kind_of (z ∷ xs) ≡ Some k.Escaped) (escaped-first x xs h) h)
 
 escaped-name : (text : List ℕ) (start end : ℕ) (s : List ℕ) → slice_range text start end ≡ s → end < 2 ^ 64 → kind_of s ≡ Some k.Escaped → IsWritable (slice_range text (behind start) end)
 escaped-name text start end [] e l h = absurd (none-some k.Escaped (sym no-bytes ∙ h))
@@ -490,7 +495,7 @@ given-based place (x ∷ xs) h =
 -- ---- all tokens
 
 good-kind : (text : List ℕ) (j : Kind) (start end : ℕ) → end < 2 ^ 64 → kind_of (slice_range text start end) ≡ Some j → Good text (kind_symbol j (slice_range text start end) start end)
-good-kind text k.Name start end l h = name-writable (slice_range text start end) h
+good-kind text k.Name start end l h = name_writable (slice_range text start end) h
 good-kind text k.Escaped start end l h = escaped-name text start end (slice_range text start end) refl l h
 good-kind text k.Word start end l h = tt
 good-kind text k.System start end l h = good-symbol text _ (system-other (slice_range text start end))

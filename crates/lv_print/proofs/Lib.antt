@@ -12,3 +12,8 @@ pub mod DigitBack
 pub mod FreeBack
 pub mod GoodTokens
 pub mod ExprLaw
+pub mod SourceRules
+pub mod UnplacedSourceRules
+pub mod Prints
+pub mod Productions
+pub mod SourceLaw

@@ -34,6 +34,14 @@ pub ok-same : (r : Result (Unit {0}) NoMemory) (x y z : Paper) → OnOk r (x ≡
 ok-same (Ok u) x y z h e = h ∙ e
 ok-same (Err u) x y z h e = h
 
+-- the tokens of a loop's head up to its test
+pub loop_written : (p0 p1 p2 p3 p4 p5 p6 p7 : Paper) (a b c d e f : Written) (x y : List Written) → p1 ≡ put p0 a → p2 ≡ put p1 b → p3 ≡ put p2 c → p4 ≡ put p3 d → p5 ≡ with_tokens p4 x →
+    p6 ≡ put p5 e → p7 ≡ with_tokens p6 y → put p7 f ≡ with_tokens p0 (a ∷ b ∷ c ∷ d ∷ (x ++ (e ∷ (y ++ (f ∷ [])))))
+unfolding with_tokens
+loop_written p0 p1 p2 p3 p4 p5 p6 p7 a b c d e f x y h1 h2 h3 h4 h5 h6 h7 =
+    ap (λ z. put z f) (h7 ∙ ap (λ z. with_tokens z y) (h6 ∙ ap (λ z. put z e) (h5 ∙ ap (λ z. with_tokens z x) (h4 ∙ ap (λ z. put z d) (h3 ∙ ap (λ z. put z c) (h2 ∙ ap (λ z. put z b) h1)))))) ∙
+    sym (with-append (put (put (put (put p0 a) b) c) d) x (e ∷ (y ++ (f ∷ []))) ∙ with-append (put (with_tokens (put (put (put (put p0 a) b) c) d) x) e) y (f ∷ []))
+
 -- ---- lists
 
 pub others-none : others [] ≡ []

@@ -5,3 +5,5 @@ pub mod Literals
 pub mod Expressions
 pub mod Unplaced
 pub mod Reads
+pub mod Sources
+pub mod UnplacedSources

@@ -91,13 +91,14 @@ fn behind(paper: &mut Paper, alloc: Global, mark: &[u8], e: &Boxed<Expr>) -> Res
     expr(paper, alloc, e.get())
 }
 
+/// Writes expressions with commas.
 #[cycle(printing)]
 #[tactic(auto, using(crate::proofs::Papers::expr_rules))]
-fn commas(paper: &mut Paper, alloc: Global, exprs: &[Expr]) -> Result<(), NoMemory>
-    ensures { OnOk result (paper.new ≡ with_tokens paper.old (written.commas (map tokens.expr_tokens exprs.now))) }
+pub fn exprs(paper: &mut Paper, alloc: Global, list: &[Expr]) -> Result<(), NoMemory>
+    ensures { OnOk result (paper.new ≡ with_tokens paper.old (written.commas (map tokens.expr_tokens list.now))) }
 {
     let mut first = true;
-    for e in exprs {
+    for e in list {
         paper.comma(first)?;
         first = false;
         expr(paper, alloc, e)?;
@@ -146,7 +147,7 @@ fn braced(paper: &mut Paper, alloc: Global, parts: &[Expr]) -> Result<(), NoMemo
     ensures { OnOk result (paper.new ≡ with_tokens paper.old (tokens.braces (written.commas (map tokens.expr_tokens parts.now)))) }
 {
     paper.mark(b"{")?;
-    commas(paper, alloc, parts)?;
+    exprs(paper, alloc, parts)?;
     paper.mark(b"}")
 }
 

@@ -1,11 +1,13 @@
 ghost use Rattle.std.specs.Prelude.{◌≡◌, IfOk, Bool};
 ghost use Rattle.lv_print.specs.Written.{text_of};
 ghost use Rattle.lv_print.specs.Expressions.{expr_tokens};
+ghost use Rattle.lv_print.specs.Sources.{source_tokens};
 ghost use Rattle.lv_print.specs.Reads.{IsSpelledExpr, ReadsBackExpr};
 
 use crate::expr::expr;
+use crate::items::modules;
 use crate::paper::Paper;
-use lv_ast::Expr;
+use lv_ast::{Expr, Source};
 use lv_bits::{NoMemory, Text};
 use std::alloc::Global;
 
@@ -17,5 +19,15 @@ pub fn print_expr(alloc: Global, tree: &Expr) -> Result<Text, NoMemory>
 {
     let mut paper = Paper::new(alloc);
     expr(&mut paper, alloc, tree)?;
+    paper.text(alloc)
+}
+
+/// The canonical text of a source.
+#[tactic(auto, using(crate::proofs::Finished::finished))]
+pub fn print_source(alloc: Global, source: &Source) -> Result<Text, NoMemory>
+    ensures { IfOk result (λ t. t ≡ text_of (source_tokens source.now)) }
+{
+    let mut paper = Paper::new(alloc);
+    modules(&mut paper, alloc, source.modules.as_slice())?;
     paper.text(alloc)
 }

@@ -1,4 +1,4 @@
-//! The canonical text of a tree.
+//! The canonical text of expressions and of whole sources: one way to write each tree, which reads back to the same tree.
 #![tactic(auto)]
 
 mod declarations;
@@ -16,5 +16,5 @@ mod statements;
 #[cfg(test)]
 mod tests;
 
-pub use laws::exprs_read_back;
+pub use laws::{exprs_read_back, sources_read_back};
 pub use print::{print_expr, print_source};

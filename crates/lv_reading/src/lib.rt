@@ -1,8 +1,10 @@
-//! Tests of reading a text: its tokens, its directives, its expressions and its grammar.
+//! Tests of reading a text and of printing it: its tokens, its directives, its expressions and its grammar.
 #![tactic(auto)]
 
 #[cfg(test)]
 mod expressions;
+#[cfg(test)]
+mod printing;
 #[cfg(test)]
 mod rows;
 #[cfg(test)]

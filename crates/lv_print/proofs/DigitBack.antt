@@ -1,12 +1,10 @@
 -- Digits as they are written, one by one: what they are, and what number they are read as.
-use Rattle.std.proofs.Common.{◌≡◌, ℕ, zero, suc, ◌+◌, ◌-◌, ◌*◌, ◌/◌, ◌%◌, ◌^◌, ◌<◌, ◌≤◌, nat_lt, Bool, true, false, not, ◌&&◌, ◌||◌, if◌then◌else◌, ◌==◌, List, [], ◌∷◌, ◌++◌, ◌⊎◌, inl, inr, refl, sym, ap, ◌∙◌, subst, arith, true≢false}
+use Rattle.std.proofs.Common.{◌≡◌, ℕ, zero, suc, ◌+◌, ◌-◌, ◌*◌, ◌/◌, ◌%◌, ◌^◌, ◌<◌, ◌≤◌, nat_lt, Bool, true, false, not, ◌&&◌, if◌then◌else◌, ◌==◌, List, [], ◌∷◌, ◌++◌, refl, sym, ap, ◌∙◌, subst, arith, true≢false}
 use Rattle.std.specs.List.{list_all}
-use Rattle.std.proofs.lemmas.Bool.{eqb-true, eqb-false, lt-ltb, le-ltb, ltb-true, ltb-false}
+use Rattle.std.proofs.lemmas.Bool.{eqb-true, eqb-false, ltb-true, ltb-false}
 use Rattle.std.proofs.lemmas.List.Folds.{list_all-append}
-use Rattle.std.proofs.lemmas.Nat.{div-mul-add, div-add-mod'}
+use Rattle.std.proofs.lemmas.Nat.{div-add-mod'}
 use Rattle.std.proofs.Math.Nat.{mod-lt, pow-suc, pow-zero, div-eq_of_lt, lt_of_mul-lt-mul_right}
-use Rattle.lv_ast.specs.Names.{is_letter}
-use Rattle.lv_ast.specs.Tokens.{is_digit, is_number_byte, is_blank, is_free, digit_value, is_base_digit, is_base_byte}
 use Rattle.lv_exprs.specs.Literals.{is_passed, is_free_digit, digit, digit_bits, digits_number, leads_free}
 use Rattle.lv_print.specs.Literals.{glyph, digits}
 use Rattle.lv_print.proofs.DigitRules.{digits-none, digits-more}
@@ -93,13 +91,13 @@ digits_value base (suc k) n low high one h =
     let small : n % base < 16 = omega (arith, r, high) in
     let e : n / base * base + n % base ≡ n = div-add-mod' n base in
     let step : digits_number false base 0 (digits base (suc k) n) ≡ digits_number false base 0 (before base k n) * base + n % base =
-      ap (digits_number false base 0) (last base k n) ∙ number_snoc false base 0 (glyph (n % base)) (before base k n) (glyph-passed (n % base) small) ∙
-      ap (λ z. digits_number false base 0 (before base k n) * base + z) (value-digit base (n % base) small) in
+    ap (digits_number false base 0) (last base k n) ∙ number_snoc false base 0 (glyph (n % base)) (before base k n) (glyph-passed (n % base) small) ∙
+    ap (λ z. digits_number false base 0 (before base k n) * base + z) (value-digit base (n % base) small) in
     let inner : digits_number false base 0 (before base k n) ≡ n / base =
-      elim (nat_lt n base) as (λ b. nat_lt n base ≡ b → digits_number false base 0 (if b then [] else digits base k (n / base)) ≡ n / base) [
-        | true ↦ λ t. sym (div-eq_of_lt {n = n} {m = base} (ltb-true n base t))
-        | false ↦ λ t. digits_value base k (n / base) low high (more-than-one base k n (ltb-false n base t) h) (div-less base k n low h)
-      ] refl in
+    elim (nat_lt n base) as (λ b. nat_lt n base ≡ b → digits_number false base 0 (if b then [] else digits base k (n / base)) ≡ n / base) [
+      | true ↦ λ t. sym (div-eq_of_lt {n = n} {m = base} (ltb-true n base t))
+      | false ↦ λ t. digits_value base k (n / base) low high (more-than-one base k n (ltb-false n base t) h) (div-less base k n low h)
+    ] refl in
     step ∙ ap (λ z. z * base + n % base) inner ∙ e
 
 pub digits_wild : (base k n : ℕ) → 2 ≤ base → base ≤ 16 → digits_number true base 0 (digits base k n) ≡ 0
@@ -108,7 +106,7 @@ digits_wild base (suc k) n low high =
     let r : n % base < base = mod-lt n {m = base} (omega (arith, low)) in
     let small : n % base < 16 = omega (arith, r, high) in
     let inner : digits_number true base 0 (before base k n) ≡ 0 =
-      elim (nat_lt n base) as (λ b. digits_number true base 0 (if b then [] else digits base k (n / base)) ≡ 0) [ true ↦ refl | false ↦ digits_wild base k (n / base) low high ] in
+    elim (nat_lt n base) as (λ b. digits_number true base 0 (if b then [] else digits base k (n / base)) ≡ 0) [ true ↦ refl | false ↦ digits_wild base k (n / base) low high ] in
     ap (digits_number true base 0) (last base k n) ∙ number_snoc true base 0 (glyph (n % base)) (before base k n) (glyph-passed (n % base) small) ∙
     ap (λ z. z * base + digit_bits true base (glyph (n % base))) inner ∙ ap (λ z. 0 * base + z) (wild-digit base (n % base) small) ∙ (omega arith)
 

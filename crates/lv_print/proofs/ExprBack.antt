@@ -1,14 +1,12 @@
 -- What is written of an expression that tokens spell is read as that expression: by induction on its form.
-use Rattle.std.proofs.Common.{◌≡◌, ℕ, ◌+◌, ◌%◌, ◌^◌, ◌<◌, ◌≤◌, nat_lt, Bool, true, false, ◌&&◌, if◌then◌else◌, List, [], ◌∷◌, ◌++◌, map, Option, Some, None, ◌⊎◌, inl, inr, refl, sym, ap, ◌∙◌, subst, arith, append_assoc, append-nil, true≢false}
+use Rattle.std.proofs.Common.{◌≡◌, ℕ, ◌+◌, ◌%◌, ◌^◌, ◌<◌, ◌≤◌, nat_lt, Bool, true, false, ◌&&◌, List, [], ◌∷◌, ◌++◌, map, Some, None, refl, sym, ap, ◌∙◌, subst, arith, append_assoc, append-nil, true≢false}
 use Rattle.std.specs.Prelude.{codes}
 use Rattle.std.proofs.Math.Nat.{mod-mod, mod-le}
 use Rattle.lv_bits.specs.declared.op.Op.{Op}
 use Rattle.lv_bits.specs.declared.op.Op.TheVariants as o
-use Rattle.lv_ast.specs.Tokens.{kind_of, is_word, is_mark, is_digit}
+use Rattle.lv_ast.specs.Tokens.{kind_of, is_mark, is_digit}
 use Rattle.lv_ast.specs.declared.tokens.Kind.TheVariants as kinds
 use Rattle.lv_ast.specs.declared.tokens.Token.{Token}
-use Rattle.lv_ast.specs.declared.expr.Literal.{Literal}
-use Rattle.lv_ast.specs.declared.expr.Path.{Path}
 use Rattle.lv_ast.specs.declared.expr.PathStep.{PathStep}
 use Rattle.lv_ast.specs.declared.expr.Expr.{Expr}
 use Rattle.lv_ast.specs.declared.expr.Expr.TheVariants as e
@@ -24,10 +22,10 @@ use Rattle.lv_exprs.specs.declared.symbol.Based.{Based}
 use Rattle.lv_exprs.specs.declared.symbol.Symbol.{Symbol}
 use Rattle.lv_exprs.specs.declared.symbol.Symbol.TheVariants as t
 use Rattle.lv_exprs.specs.Levels.{level, leads}
-use Rattle.lv_exprs.specs.Literals.{number_of, based_of}
-use Rattle.lv_exprs.specs.Symbols.{symbol, symbols, mark_symbol}
-use Rattle.lv_exprs.specs.Forms.{Form, plain, based, sized, name, dot, bit, part, prefix, binary, choice, paren, cast, pair, brace, repeat, text, rank, Valid, IsExpr, is_plain, is_path, is_step, is_free, cut}
-use Rattle.lv_exprs.specs.Trees.{made, trees, tree, first, path, simple_path, bytes_of, number_in, index_of, unary, infix_tree, part_select, plain_literal, based_literal, sized_literal}
+use Rattle.lv_exprs.specs.Literals.{based_of}
+use Rattle.lv_exprs.specs.Symbols.{symbols, mark_symbol}
+use Rattle.lv_exprs.specs.Forms.{Form, plain, based, sized, name, dot, bit, part, prefix, binary, choice, paren, cast, pair, brace, repeat, text, rank, Valid, is_plain, is_path, is_step, is_free, cut}
+use Rattle.lv_exprs.specs.Trees.{made, trees, tree, path, simple_path, bytes_of, number_in, index_of, unary, infix_tree, part_select, plain_literal, based_literal, sized_literal}
 use Rattle.lv_print.specs.Written as w
 use Rattle.lv_print.specs.Written.{Written, mark, joined}
 use Rattle.lv_print.specs.Literals.{number_token, based_token, literal_tokens}
@@ -37,9 +35,9 @@ use Rattle.lv_print.proofs.UnplacedRules.{unplaced-Lit, unplaced-Name, unplaced-
 use Rattle.lv_print.proofs.Papers.{tokens-Lit, tokens-Name, tokens-Bin, tokens-Div, tokens-Rem, tokens-Bit, tokens-Part, tokens-Up, tokens-Down, joined-none, joined-more}
 use Rattle.lv_print.proofs.Tokenized.{IsWhole, AreWhole, Are}
 use Rattle.lv_print.proofs.FreeBack.{Apart}
-use Rattle.lv_print.proofs.LiteralBack.{IsGiven, GivesBack, cut_by, apart_cut, number_whole, number_back, based_whole, based_back}
-use Rattle.lv_print.proofs.Spelled.{IsWritable, whole_mark, whole_name, whole_append, Behind, behind_of, Cut, cut_of, Enclosed, enclosed, Middle, middle, IsNamed, name_at, at_mark, at_written, spells_cons, spells_append}
-use Rattle.lv_print.proofs.TreeBack.{is_number, number, middle_whole, brackets_whole, TreeAgain, TreeBack, ListAgain, ListBack, one_tree, list_of_one, list_snoc, unary_back, infix_back, choice_back, brace_back, repeat_back, cast_back}
+use Rattle.lv_print.proofs.LiteralBack.{IsGiven, GivesBack, apart_cut, number_whole, number_back, based_whole, based_back}
+use Rattle.lv_print.proofs.Spelled.{IsWritable, whole_mark, whole_name, whole_append, Behind, behind_of, Cut, cut_of, Enclosed, enclosed, Middle, middle, IsNamed, name_at, at_written, spells_cons, spells_append}
+use Rattle.lv_print.proofs.TreeBack.{is_number, number, middle_whole, brackets_whole, TreeAgain, TreeBack, ListBack, one_tree, list_of_one, list_snoc, unary_back, infix_back, choice_back, brace_back, repeat_back, cast_back}
 
 -- ---- what good tokens give
 
@@ -167,17 +165,17 @@ module _ (old : List ℕ) (p : Bool) where
   plain-back n h = record {
     whole = subst AreWhole (sym (plain-tokens n)) (number_whole n.value h, tt);
     again = λ bytes ts a.
-      let b : Behind bytes ts (number_token n.value) [] = behind_of bytes ts _ _ (subst (Are bytes ts) (plain-tokens n) a) in
-      record {
-        form = plain (record { place = b.token.start; value = n.value });
-        spells =
-          spells_cons bytes b.token ts b.rest _ [] b.cut
-          (at_written bytes b.token (number_token n.value) _ (ap t.Number (number_back n.value b.token.start h)) b.at) (ap (symbols bytes) b.are);
-        valid = tt;
-        tight = omega arith;
-        same = unplaced-Lit _ ∙ sym (unplaced-Lit (plain_literal n));
-        plain = λ _. (refl, refl);
-      };
+        let b : Behind bytes ts (number_token n.value) [] = behind_of bytes ts _ _ (subst (Are bytes ts) (plain-tokens n) a) in
+        record {
+          form = plain (record { place = b.token.start; value = n.value });
+          spells =
+              spells_cons bytes b.token ts b.rest _ [] b.cut
+              (at_written bytes b.token (number_token n.value) _ (ap t.Number (number_back n.value b.token.start h)) b.at) (ap (symbols bytes) b.are);
+          valid = tt;
+          tight = omega arith;
+          same = unplaced-Lit _ ∙ sym (unplaced-Lit (plain_literal n));
+          plain = λ _. (refl, refl);
+        };
   }
 
   given-based : (b : Based) → AreGivenBits b → IsGiven (based_literal b)
@@ -207,52 +205,52 @@ module _ (old : List ℕ) (p : Bool) where
   based-literal-back b h = record {
     whole = subst AreWhole (sym (based-tokens b)) (based_whole (based_literal b) (given-based b h), tt);
     again = λ bytes ts a.
-      let q : Behind bytes ts (based_token (based_literal b)) [] = behind_of bytes ts _ _ (subst (Are bytes ts) (based-tokens b) a) in
-      let c : Based = based_of q.token.start (based_token (based_literal b)).bytes in
-      let back : GivesBack (based_literal b) c = based_back (based_literal b) q.token.start (given-based b h) in
-      let free : is_free (based c) ≡ is_free (based b) = ap (nat_lt 0) back.wild in
-      record {
-        form = based c;
-        spells = spells_cons bytes q.token ts q.rest (t.Based c) [] q.cut (at_written bytes q.token (based_token (based_literal b)) (t.Based c) refl q.at) (ap (symbols bytes) q.are);
-        valid = λ f. free ∙ f;
-        free = free;
-        tight = omega arith;
-        same =
-          unplaced-Lit (based_literal c) ∙
-          ap e.Lit (λ i. record { size = None; plain = false; signed = back.signed i; value = back.value i; wild = back.wild i; place = 0 }) ∙ sym (unplaced-Lit (based_literal b));
-      };
+        let q : Behind bytes ts (based_token (based_literal b)) [] = behind_of bytes ts _ _ (subst (Are bytes ts) (based-tokens b) a) in
+        let c : Based = based_of q.token.start (based_token (based_literal b)).bytes in
+        let back : GivesBack (based_literal b) c = based_back (based_literal b) q.token.start (given-based b h) in
+        let free : is_free (based c) ≡ is_free (based b) = ap (nat_lt 0) back.wild in
+        record {
+          form = based c;
+          spells = spells_cons bytes q.token ts q.rest (t.Based c) [] q.cut (at_written bytes q.token (based_token (based_literal b)) (t.Based c) refl q.at) (ap (symbols bytes) q.are);
+          valid = λ f. free ∙ f;
+          free = free;
+          tight = omega arith;
+          same =
+              unplaced-Lit (based_literal c) ∙
+              ap e.Lit (λ i. record { size = None; plain = false; signed = back.signed i; value = back.value i; wild = back.wild i; place = 0 }) ∙ sym (unplaced-Lit (based_literal b));
+        };
   }
 
   sized-literal-back : (n : Number) (b : Based) → n.value < 2 ^ 128 → AreGivenBits b → LiteralBack (sized n b)
   sized-literal-back n b m h = record {
     whole = subst AreWhole (sym (sized-tokens n b)) (number_whole n.value m, (based_whole (sized_literal n b) (given-sized n b h), tt));
     again = λ bytes ts a.
-      let r : Behind bytes ts (number_token n.value) (based_token (sized_literal n b) ∷ []) = behind_of bytes ts _ _ (subst (Are bytes ts) (sized-tokens n b) a) in
-      let q : Behind bytes r.rest (based_token (sized_literal n b)) [] = behind_of bytes r.rest _ _ r.are in
-      let k : Number = record { place = r.token.start; value = n.value } in
-      let c : Based = based_of q.token.start (based_token (sized_literal n b)).bytes in
-      let back : GivesBack (sized_literal n b) c = based_back (sized_literal n b) q.token.start (given-sized n b h) in
-      let free : is_free (sized k c) ≡ is_free (sized n b) = ap (nat_lt 0) back.wild in
-      record {
-        form = sized k c;
-        spells =
-          spells_cons bytes r.token ts r.rest (t.Number k) (t.Based c ∷ []) r.cut (at_written bytes r.token (number_token n.value) (t.Number k) (ap t.Number (number_back n.value r.token.start m)) r.at)
-          (spells_cons bytes q.token r.rest q.rest (t.Based c) [] q.cut (at_written bytes q.token (based_token (sized_literal n b)) (t.Based c) refl q.at) (ap (symbols bytes) q.are));
-        valid = λ f. free ∙ f;
-        free = free;
-        tight = omega arith;
-        same =
-          unplaced-Lit (sized_literal k c) ∙
-          ap e.Lit (λ i. record { size = Some n.value; plain = false; signed = back.signed i; value = back.value i; wild = back.wild i; place = 0 }) ∙ sym (unplaced-Lit (sized_literal n b));
-      };
+        let r : Behind bytes ts (number_token n.value) (based_token (sized_literal n b) ∷ []) = behind_of bytes ts _ _ (subst (Are bytes ts) (sized-tokens n b) a) in
+        let q : Behind bytes r.rest (based_token (sized_literal n b)) [] = behind_of bytes r.rest _ _ r.are in
+        let k : Number = record { place = r.token.start; value = n.value } in
+        let c : Based = based_of q.token.start (based_token (sized_literal n b)).bytes in
+        let back : GivesBack (sized_literal n b) c = based_back (sized_literal n b) q.token.start (given-sized n b h) in
+        let free : is_free (sized k c) ≡ is_free (sized n b) = ap (nat_lt 0) back.wild in
+        record {
+          form = sized k c;
+          spells =
+              spells_cons bytes r.token ts r.rest (t.Number k) (t.Based c ∷ []) r.cut (at_written bytes r.token (number_token n.value) (t.Number k) (ap t.Number (number_back n.value r.token.start m)) r.at)
+              (spells_cons bytes q.token r.rest q.rest (t.Based c) [] q.cut (at_written bytes q.token (based_token (sized_literal n b)) (t.Based c) refl q.at) (ap (symbols bytes) q.are));
+          valid = λ f. free ∙ f;
+          free = free;
+          tight = omega arith;
+          same =
+              unplaced-Lit (sized_literal k c) ∙
+              ap e.Lit (λ i. record { size = Some n.value; plain = false; signed = back.signed i; value = back.value i; wild = back.wild i; place = 0 }) ∙ sym (unplaced-Lit (sized_literal n b));
+        };
   }
 
   tree_of_literal : (x : Form) → is_number (tree old x) ≡ false → is_free x ≡ false → LiteralBack x → TreeBack p (tree old x)
   tree_of_literal x n f h = record {
     whole = h.whole;
     again = λ bytes ts a.
-      let q : LiteralAgain bytes ts x = h.again bytes ts a in
-      record { form = q.form; spells = q.spells; valid = q.valid f; tight = q.tight; same = q.same; plain = λ i. absurd (true≢false (sym i ∙ n)) };
+        let q : LiteralAgain bytes ts x = h.again bytes ts a in
+        record { form = q.form; spells = q.spells; valid = q.valid f; tight = q.tight; same = q.same; plain = λ i. absurd (true≢false (sym i ∙ n)) };
   }
 
   -- ---- names
@@ -292,19 +290,19 @@ module _ (old : List ℕ) (p : Bool) where
   tree_of_name x r h = record {
     whole = h.whole;
     again = λ bytes ts a.
-      let q : NameAgain bytes ts x = h.again bytes ts a in
-      let qt : 14 ≤ rank q.form = q.tight in
-      record {
-        form = q.form;
-        spells = q.spells;
-        valid = q.valid;
-        tight = omega (arith, qt);
-        same =
-          ap unplaced.expr (named-tree bytes q.form qt) ∙ unplaced-Name (path bytes q.form) (made bytes q.form).selects ∙
-          ap (λ z. e.Name z (map unplaced.select (made bytes q.form).selects)) q.path ∙ ap (e.Name (unplaced.path (path old x))) q.selects ∙
-          sym (unplaced-Name (path old x) (made old x).selects) ∙ ap unplaced.expr (sym (named-tree old x r));
-        plain = λ i. absurd (true≢false (sym i ∙ ap is_number (named-tree old x r)));
-      };
+        let q : NameAgain bytes ts x = h.again bytes ts a in
+        let qt : 14 ≤ rank q.form = q.tight in
+        record {
+          form = q.form;
+          spells = q.spells;
+          valid = q.valid;
+          tight = omega (arith, qt);
+          same =
+              ap unplaced.expr (named-tree bytes q.form qt) ∙ unplaced-Name (path bytes q.form) (made bytes q.form).selects ∙
+              ap (λ z. e.Name z (map unplaced.select (made bytes q.form).selects)) q.path ∙ ap (e.Name (unplaced.path (path old x))) q.selects ∙
+              sym (unplaced-Name (path old x) (made old x).selects) ∙ ap unplaced.expr (sym (named-tree old x r));
+          plain = λ i. absurd (true≢false (sym i ∙ ap is_number (named-tree old x r)));
+        };
   }
 
   simple-tokens : (s : List ℕ) (place : ℕ) → path_tokens (record { steps = []; name = s; place = place }) ++ joined [] ≡ w.name s ∷ []
@@ -317,18 +315,18 @@ module _ (old : List ℕ) (p : Bool) where
       record {
         whole = subst AreWhole (sym same) (whole_name (bytes_of old n) h, tt);
         again = λ bytes ts a.
-          let b : Behind bytes ts (w.name (bytes_of old n)) [] = behind_of bytes ts _ _ (subst (Are bytes ts) same a) in
-          let q : IsNamed bytes b.token (bytes_of old n) = name_at bytes b.token (bytes_of old n) b.at in
-          record {
-            form = name q.name;
-            spells = spells_cons bytes b.token ts b.rest (t.Name q.name) [] b.cut q.symbol (ap (symbols bytes) b.are);
-            valid = tt;
-            tight = omega arith;
-            path = λ i. record { steps = []; name = q.bytes i; place = 0 };
-            selects = refl;
-            is_path = λ _. refl;
-            step = λ _. (refl, refl);
-          };
+            let b : Behind bytes ts (w.name (bytes_of old n)) [] = behind_of bytes ts _ _ (subst (Are bytes ts) same a) in
+            let q : IsNamed bytes b.token (bytes_of old n) = name_at bytes b.token (bytes_of old n) b.at in
+            record {
+              form = name q.name;
+              spells = spells_cons bytes b.token ts b.rest (t.Name q.name) [] b.cut q.symbol (ap (symbols bytes) b.are);
+              valid = tt;
+              tight = omega arith;
+              path = λ i. record { steps = []; name = q.bytes i; place = 0 };
+              selects = refl;
+              is_path = λ _. refl;
+              step = λ _. (refl, refl);
+            };
       }
 
   joined-snoc : (xs : List (List Written)) (y : List Written) → joined (xs ++ (y ∷ [])) ≡ joined xs ++ y
@@ -401,21 +399,21 @@ module _ (old : List ℕ) (p : Bool) where
   dot-back x n st pt good h = record {
     whole = subst AreWhole (sym (dot-tokens x n st)) (whole_append (expr_tokens (tree old x)) _ h.whole (dot-whole, (whole_name (bytes_of old n) good, tt)));
     again = λ bytes ts a.
-      let m : Middle bytes ts (expr_tokens (tree old x)) (w.name (bytes_of old n) ∷ []) t.Dot = middle bytes ts (codes ".") _ _ t.Dot refl (subst (Are bytes ts) (dot-tokens x n st) a) in
-      let q : NameAgain bytes m.left x = h.again bytes m.left m.left_are in
-      let b : Behind bytes m.right (w.name (bytes_of old n)) [] = behind_of bytes m.right _ _ m.right_are in
-      let r : IsNamed bytes b.token (bytes_of old n) = name_at bytes b.token (bytes_of old n) b.at in
-      let s : (is_step q.form ≡ true) × (index_of q.form ≡ index_of x) = q.step st in
-      record {
-        form = dot q.form r.name;
-        spells = m.spells (text q.form) (t.Name r.name ∷ []) q.spells (spells_cons bytes b.token m.right b.rest (t.Name r.name) [] b.cut r.symbol (ap (symbols bytes) b.are));
-        valid = (q.valid, s.0, pt);
-        tight = omega arith;
-        path = λ i. record { steps = (q.path i).steps ++ (record { name = (q.path i).name; index = s.1 i } ∷ []); name = r.bytes i; place = 0 };
-        selects = refl;
-        is_path = λ _. refl;
-        step = λ _. (refl, refl);
-      };
+        let m : Middle bytes ts (expr_tokens (tree old x)) (w.name (bytes_of old n) ∷ []) t.Dot = middle bytes ts (codes ".") _ _ t.Dot refl (subst (Are bytes ts) (dot-tokens x n st) a) in
+        let q : NameAgain bytes m.left x = h.again bytes m.left m.left_are in
+        let b : Behind bytes m.right (w.name (bytes_of old n)) [] = behind_of bytes m.right _ _ m.right_are in
+        let r : IsNamed bytes b.token (bytes_of old n) = name_at bytes b.token (bytes_of old n) b.at in
+        let s : (is_step q.form ≡ true) × (index_of q.form ≡ index_of x) = q.step st in
+        record {
+          form = dot q.form r.name;
+          spells = m.spells (text q.form) (t.Name r.name ∷ []) q.spells (spells_cons bytes b.token m.right b.rest (t.Name r.name) [] b.cut r.symbol (ap (symbols bytes) b.are));
+          valid = (q.valid, s.0, pt);
+          tight = omega arith;
+          path = λ i. record { steps = (q.path i).steps ++ (record { name = (q.path i).name; index = s.1 i } ∷ []); name = r.bytes i; place = 0 };
+          selects = refl;
+          is_path = λ _. refl;
+          step = λ _. (refl, refl);
+        };
   }
 
   -- ---- selects
@@ -430,32 +428,32 @@ module _ (old : List ℕ) (p : Bool) where
   bit-back : (x i : Form) → 14 ≤ rank x → NameBack x → TreeBack p (tree old i) → NameBack (bit x i)
   bit-back x i xr h j =
       let same : expr_tokens (tree old (bit x i)) ≡ expr_tokens (tree old x) ++ brackets (expr_tokens (tree old i)) =
-        select-tokens x (s.Bit (tree old i)) xr ∙ ap (λ z. expr_tokens (tree old x) ++ z) (tokens-Bit (tree old i)) in
+      select-tokens x (s.Bit (tree old i)) xr ∙ ap (λ z. expr_tokens (tree old x) ++ z) (tokens-Bit (tree old i)) in
       record {
         whole = subst AreWhole (sym same) (whole_append _ _ h.whole (brackets_whole _ j.whole));
         again = λ bytes ts a.
-          let c : Cut bytes ts (expr_tokens (tree old x)) (brackets (expr_tokens (tree old i))) = cut_of bytes ts _ _ (subst (Are bytes ts) same a) in
-          let n : Enclosed bytes c.back (expr_tokens (tree old i)) t.LeftBracket t.RightBracket = enclosed bytes c.back (codes "[") (codes "]") _ t.LeftBracket t.RightBracket refl refl c.back_are in
-          let q : NameAgain bytes c.front x = h.again bytes c.front c.front_are in
-          let r : TreeAgain p bytes n.inside (tree old i) = j.again bytes n.inside n.are in
-          let rt : 13 ≤ rank r.form = r.tight in
-          record {
-            form = bit q.form r.form;
-            spells = spells_append bytes ts c.front c.back (text q.form) _ c.cut q.spells (n.spells (text r.form) r.spells);
-            valid = (q.valid, q.tight, r.valid, omega (arith, rt));
-            tight = omega arith;
-            path = q.path;
-            selects =
-              map-snoc unplaced.select (made bytes q.form).selects (s.Bit (tree bytes r.form)) ∙ ap (λ z. z ++ (unplaced.select (s.Bit (tree bytes r.form)) ∷ [])) q.selects ∙
-              ap (λ z. map unplaced.select (made old x).selects ++ (z ∷ [])) (unplaced-Bit (tree bytes r.form) ∙ ap s.Bit r.same ∙ sym (unplaced-Bit (tree old i))) ∙
-              sym (map-snoc unplaced.select (made old x).selects (s.Bit (tree old i)));
-            is_path = λ f. absurd (true≢false (sym f));
-            step = λ f.
-              let z = both (is_path x) (is_plain i) f in
-              let k = plain-number i z.1 in
-              let l = r.plain k.0 in
-              (ap (λ b. b && is_plain r.form) (q.is_path z.0) ∙ l.0, l.1 ∙ k.1);
-          };
+            let c : Cut bytes ts (expr_tokens (tree old x)) (brackets (expr_tokens (tree old i))) = cut_of bytes ts _ _ (subst (Are bytes ts) same a) in
+            let n : Enclosed bytes c.back (expr_tokens (tree old i)) t.LeftBracket t.RightBracket = enclosed bytes c.back (codes "[") (codes "]") _ t.LeftBracket t.RightBracket refl refl c.back_are in
+            let q : NameAgain bytes c.front x = h.again bytes c.front c.front_are in
+            let r : TreeAgain p bytes n.inside (tree old i) = j.again bytes n.inside n.are in
+            let rt : 13 ≤ rank r.form = r.tight in
+            record {
+              form = bit q.form r.form;
+              spells = spells_append bytes ts c.front c.back (text q.form) _ c.cut q.spells (n.spells (text r.form) r.spells);
+              valid = (q.valid, q.tight, r.valid, omega (arith, rt));
+              tight = omega arith;
+              path = q.path;
+              selects =
+                  map-snoc unplaced.select (made bytes q.form).selects (s.Bit (tree bytes r.form)) ∙ ap (λ z. z ++ (unplaced.select (s.Bit (tree bytes r.form)) ∷ [])) q.selects ∙
+                  ap (λ z. map unplaced.select (made old x).selects ++ (z ∷ [])) (unplaced-Bit (tree bytes r.form) ∙ ap s.Bit r.same ∙ sym (unplaced-Bit (tree old i))) ∙
+                  sym (map-snoc unplaced.select (made old x).selects (s.Bit (tree old i)));
+              is_path = λ f. absurd (true≢false (sym f));
+              step = λ f.
+                  let z = both (is_path x) (is_plain i) f in
+                  let k = plain-number i z.1 in
+                  let l = r.plain k.0 in
+                  (ap (λ b. b && is_plain r.form) (q.is_path z.0) ∙ l.0, l.1 ∙ k.1);
+            };
       }
 
   abbrev divider_bytes : Divider → List ℕ
@@ -488,37 +486,37 @@ module _ (old : List ℕ) (p : Bool) where
   part-back v x i j xr h k l =
       let sel : Select = part_select v (tree old i) (tree old j) in
       let same : expr_tokens (tree old (part v x i j)) ≡ expr_tokens (tree old x) ++ span_tokens (divider_bytes v) (expr_tokens (tree old i)) (expr_tokens (tree old j)) =
-        select-tokens x sel xr ∙ ap (λ z. expr_tokens (tree old x) ++ z) (span-tokens v (tree old i) (tree old j)) in
+      select-tokens x sel xr ∙ ap (λ z. expr_tokens (tree old x) ++ z) (span-tokens v (tree old i) (tree old j)) in
       record {
         whole = subst AreWhole (sym same) (whole_append _ _ h.whole (brackets_whole _ (middle_whole (divider_bytes v) _ _ (divider-whole v) k.whole l.whole)));
         again = λ bytes ts a.
-          let c : Cut bytes ts (expr_tokens (tree old x)) (span_tokens (divider_bytes v) (expr_tokens (tree old i)) (expr_tokens (tree old j))) = cut_of bytes ts _ _ (subst (Are bytes ts) same a) in
-          let n : Enclosed bytes c.back (expr_tokens (tree old i) ++ (mark (divider_bytes v) ∷ expr_tokens (tree old j))) t.LeftBracket t.RightBracket =
+            let c : Cut bytes ts (expr_tokens (tree old x)) (span_tokens (divider_bytes v) (expr_tokens (tree old i)) (expr_tokens (tree old j))) = cut_of bytes ts _ _ (subst (Are bytes ts) same a) in
+            let n : Enclosed bytes c.back (expr_tokens (tree old i) ++ (mark (divider_bytes v) ∷ expr_tokens (tree old j))) t.LeftBracket t.RightBracket =
             enclosed bytes c.back (codes "[") (codes "]") _ t.LeftBracket t.RightBracket refl refl c.back_are in
-          let m : Middle bytes n.inside (expr_tokens (tree old i)) (expr_tokens (tree old j)) (t.Divider v) = middle bytes n.inside (divider_bytes v) _ _ (t.Divider v) (divider-symbol v) n.are in
-          let q : NameAgain bytes c.front x = h.again bytes c.front c.front_are in
-          let r : TreeAgain p bytes m.left (tree old i) = k.again bytes m.left m.left_are in
-          let u : TreeAgain p bytes m.right (tree old j) = l.again bytes m.right m.right_are in
-          let rt : 13 ≤ rank r.form = r.tight in
-          let ut : 13 ≤ rank u.form = u.tight in
-          let new : Select = part_select v (tree bytes r.form) (tree bytes u.form) in
-          record {
-            form = part v q.form r.form u.form;
-            spells =
-              spells_append bytes ts c.front c.back (text q.form) _ c.cut q.spells
-              (n.spells _ (m.spells (text r.form) (text u.form) r.spells u.spells) ∙ ap (λ z. t.LeftBracket ∷ z) (append_assoc (text r.form) (t.Divider v ∷ text u.form) (t.RightBracket ∷ [])));
-            valid = (q.valid, q.tight, r.valid, omega (arith, rt), u.valid, omega (arith, ut));
-            tight = omega arith;
-            path = q.path;
-            selects =
-              map-snoc unplaced.select (made bytes q.form).selects new ∙ ap (λ z. z ++ (unplaced.select new ∷ [])) q.selects ∙
-              ap (λ z. map unplaced.select (made old x).selects ++ (z ∷ []))
-                (span-unplaced v (tree bytes r.form) (tree bytes u.form) ∙ ap (λ z. part_select v z (unplaced.expr (tree bytes u.form))) r.same ∙ ap (part_select v (unplaced.expr (tree old i))) u.same ∙
-                 sym (span-unplaced v (tree old i) (tree old j))) ∙
-              sym (map-snoc unplaced.select (made old x).selects sel);
-            is_path = λ f. absurd (true≢false (sym f));
-            step = λ f. absurd (true≢false (sym f));
-          };
+            let m : Middle bytes n.inside (expr_tokens (tree old i)) (expr_tokens (tree old j)) (t.Divider v) = middle bytes n.inside (divider_bytes v) _ _ (t.Divider v) (divider-symbol v) n.are in
+            let q : NameAgain bytes c.front x = h.again bytes c.front c.front_are in
+            let r : TreeAgain p bytes m.left (tree old i) = k.again bytes m.left m.left_are in
+            let u : TreeAgain p bytes m.right (tree old j) = l.again bytes m.right m.right_are in
+            let rt : 13 ≤ rank r.form = r.tight in
+            let ut : 13 ≤ rank u.form = u.tight in
+            let new : Select = part_select v (tree bytes r.form) (tree bytes u.form) in
+            record {
+              form = part v q.form r.form u.form;
+              spells =
+                  spells_append bytes ts c.front c.back (text q.form) _ c.cut q.spells
+                  (n.spells _ (m.spells (text r.form) (text u.form) r.spells u.spells) ∙ ap (λ z. t.LeftBracket ∷ z) (append_assoc (text r.form) (t.Divider v ∷ text u.form) (t.RightBracket ∷ [])));
+              valid = (q.valid, q.tight, r.valid, omega (arith, rt), u.valid, omega (arith, ut));
+              tight = omega arith;
+              path = q.path;
+              selects =
+                  map-snoc unplaced.select (made bytes q.form).selects new ∙ ap (λ z. z ++ (unplaced.select new ∷ [])) q.selects ∙
+                  ap (λ z. map unplaced.select (made old x).selects ++ (z ∷ []))
+                  (span-unplaced v (tree bytes r.form) (tree bytes u.form) ∙ ap (λ z. part_select v z (unplaced.expr (tree bytes u.form))) r.same ∙ ap (part_select v (unplaced.expr (tree old i))) u.same ∙
+                  sym (span-unplaced v (tree old i) (tree old j))) ∙
+                  sym (map-snoc unplaced.select (made old x).selects sel);
+              is_path = λ f. absurd (true≢false (sym f));
+              step = λ f. absurd (true≢false (sym f));
+            };
       }
 
   -- ---- literals with free bits

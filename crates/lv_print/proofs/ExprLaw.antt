@@ -1,5 +1,5 @@
 -- The canonical text of an expression reads back to it.
-use Rattle.std.proofs.Common.{◌≡◌, ℕ, ◌^◌, ◌<◌, ◌≤◌, arith, true≢false, Bool, true, false, List, length, inl, inr, refl, sym, ap, ◌∙◌, subst}
+use Rattle.std.proofs.Common.{◌≡◌, ℕ, ◌^◌, ◌<◌, ◌≤◌, arith, true≢false, Bool, true, List, length, inl, inr, sym, ◌∙◌, subst}
 use Rattle.std.specs.Prelude.{◌++◌, Result, Ok, Err, IfOk}
 use Rattle.lv_bits.specs.declared.text.NoMemory.{NoMemory}
 use Rattle.lv_print.specs.declared.paper.Paper.{Paper}
@@ -35,17 +35,17 @@ pub tree_of : (p : Bool) (x : Expr) → TreeBack p x → ExprBack p x
 tree_of p x h = record {
   whole = h.whole;
   again = λ bytes ts a.
-    let q : TreeAgain p bytes ts x = h.again bytes ts a in
-    let tight : 13 ≤ rank q.form = q.tight in
-    record { form = q.form; spells = q.spells; valid = inl (q.valid, omega (arith, tight)); same = q.same };
+      let q : TreeAgain p bytes ts x = h.again bytes ts a in
+      let tight : 13 ≤ rank q.form = q.tight in
+      record { form = q.form; spells = q.spells; valid = inl (q.valid, omega (arith, tight)); same = q.same };
 }
 
 of-literal : (old : List ℕ) (p : Bool) (x : Form) → is_free x ≡ true → LiteralBack old p x → ExprBack p (tree old x)
 of-literal old p x f h = record {
   whole = h.whole;
   again = λ bytes ts a.
-    let q : LiteralAgain old p bytes ts x = h.again bytes ts a in
-    record { form = q.form; spells = q.spells; valid = inr (q.free ∙ f); same = q.same };
+      let q : LiteralAgain old p bytes ts x = h.again bytes ts a in
+      record { form = q.form; spells = q.spells; valid = inr (q.free ∙ f); same = q.same };
 }
 
 free-back : (old : List ℕ) (p : Bool) (x : Form) → is_free x ≡ true → AllGood old (forms.text x) → ExprBack p (tree old x)

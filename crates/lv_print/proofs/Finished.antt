@@ -1,5 +1,5 @@
 -- The text on a paper is the text of its tokens.
-use Rattle.std.proofs.Common.{◌≡◌, ℕ, Bool, true, false, ◌&&◌, if◌then◌else◌, List, [], ◌∷◌, ◌++◌, refl, sym, ap, ◌∙◌, append_assoc, append-nil}
+use Rattle.std.proofs.Common.{◌≡◌, ℕ, true, false, ◌&&◌, if◌then◌else◌, List, [], ◌∷◌, ◌++◌, refl, sym, ap, ◌∙◌, append_assoc, append-nil}
 use Rattle.lv_ast.specs.declared.tokens.Kind.{Kind}
 use Rattle.lv_ast.specs.declared.tokens.Kind.TheVariants as k
 use Rattle.lv_print.specs.declared.last.Last.TheVariants as last

@@ -1,13 +1,13 @@
 -- Binary digits with free ones among them, as they are written and read.
-use Rattle.std.proofs.Common.{◌≡◌, ℕ, zero, suc, ◌+◌, ◌-◌, ◌*◌, ◌/◌, ◌%◌, ◌^◌, ◌<◌, ◌≤◌, nat_lt, Bool, true, false, not, ◌&&◌, ◌||◌, if◌then◌else◌, ◌==◌, List, [], ◌∷◌, ◌++◌, ◌⊎◌, inl, inr, refl, sym, ap, ◌∙◌, subst, arith, true≢false}
+use Rattle.std.proofs.Common.{◌≡◌, ℕ, zero, suc, ◌+◌, ◌-◌, ◌*◌, ◌/◌, ◌%◌, ◌^◌, ◌<◌, ◌≤◌, nat_lt, Bool, true, false, not, ◌&&◌, if◌then◌else◌, ◌==◌, [], ◌∷◌, ◌++◌, refl, sym, ap, ◌∙◌, subst, arith, true≢false}
 use Rattle.std.specs.List.{list_all}
 use Rattle.std.proofs.lemmas.Bool.{eqb-true, eqb-false, ltb-true, ltb-false}
 use Rattle.std.proofs.lemmas.List.Folds.{list_all-append}
-use Rattle.std.proofs.lemmas.Nat.{div-mul-add, div-add-mod', mod-mul-add, mod-pow-add, pow-add}
-use Rattle.std.proofs.lemmas.Nat.Bits.{bit_at_lowest, bit_at-suc, bit_at-zero, bit_at_above, bit_at_cat_low, bit_at_cat_high, ones_shr}
+use Rattle.std.proofs.lemmas.Nat.{div-add-mod', mod-pow-add}
+use Rattle.std.proofs.lemmas.Nat.Bits.{bit_at_lowest, bit_at-suc, bit_at_above, bit_at_cat_low}
 use Rattle.std.proofs.Math.Pow.{pow_pos}
 use Rattle.std.proofs.Math.Nat.{mod-lt, pow-suc, div-eq_of_lt, div-div-eq-div-mul, mod-one, div-one}
-use Rattle.lv_exprs.specs.Literals.{is_passed, is_free_digit, digit, digit_bits, digits_number, leads_free, above}
+use Rattle.lv_exprs.specs.Literals.{is_passed, is_free_digit, digit, digit_bits, digits_number, leads_free}
 use Rattle.lv_print.specs.Literals.{free_glyph, free_digits, gives_back, first_from, fewest}
 use Rattle.lv_print.proofs.DigitRules.{free_digits-none, free_digits-more, first-none, first-more}
 use Rattle.lv_print.proofs.DigitBack.{both, check_below, checked, number_snoc}
@@ -152,9 +152,9 @@ last-gives width v w a b =
     ap (λ z. (z == 0) && (w / 2 ^ width == (if (w / 2 ^ (width - 1)) % 2 == 1 then (2 ^ width - 1) / 2 ^ width else 0))) (div-eq_of_lt {n = v} {m = 2 ^ width} a) ∙
     ap (λ z. z == (if (w / 2 ^ (width - 1)) % 2 == 1 then (2 ^ width - 1) / 2 ^ width else 0)) (div-eq_of_lt {n = w} {m = 2 ^ width} b) ∙
     (let p : 0 < 2 ^ width = power-some width in
-     let e : (2 ^ width - 1) / 2 ^ width ≡ 0 = div-eq_of_lt {n = 2 ^ width - 1} {m = 2 ^ width} (omega (arith, p)) in
-     ap (λ z. 0 == (if (w / 2 ^ (width - 1)) % 2 == 1 then z else 0)) e ∙
-     elim ((w / 2 ^ (width - 1)) % 2 == 1) as (λ b. (0 == (if b then 0 else 0)) ≡ true) [ true ↦ refl | false ↦ refl ])
+    let e : (2 ^ width - 1) / 2 ^ width ≡ 0 = div-eq_of_lt {n = 2 ^ width - 1} {m = 2 ^ width} (omega (arith, p)) in
+    ap (λ z. 0 == (if (w / 2 ^ (width - 1)) % 2 == 1 then z else 0)) e ∙
+    elim ((w / 2 ^ (width - 1)) % 2 == 1) as (λ b. (0 == (if b then 0 else 0)) ≡ true) [ true ↦ refl | false ↦ refl ])
 
 pub fewest_is : (width v w : ℕ) → 1 ≤ width → width ≤ 128 → v < 2 ^ width → w < 2 ^ width → IsFirst (gives_back width v w) 1 width (fewest width v w)
 fewest_is width v w a b c d = first-is (gives_back width v w) 127 1 width a (omega (arith, b)) (last-gives width v w c d)

@@ -1,6 +1,6 @@
 -- Whole tokens give names that can be written, and literals whose free bits are apart from their value.
-use Rattle.std.proofs.Common.{eq-eqb, ◌≡◌, ℕ, zero, suc, ◌+◌, ◌-◌, ◌*◌, ◌/◌, ◌%◌, ◌^◌, ◌<◌, ◌≤◌, min, nat_lt, nat_le, Bool, true, false, not, ◌&&◌, ◌||◌, if◌then◌else◌, ◌==◌, List, [], ◌∷◌, ◌++◌, ◌⊎◌, length, bytes_eq, Option, Some, None, inl, inr, refl, sym, ap, ◌∙◌, subst, arith, true≢false}
-use Rattle.std.specs.Prelude.{slice_range, codes, IsTrue}
+use Rattle.std.proofs.Common.{eq-eqb, ◌≡◌, ℕ, ◌+◌, ◌-◌, ◌*◌, ◌/◌, ◌%◌, ◌^◌, ◌<◌, ◌≤◌, nat_lt, Bool, true, false, not, ◌&&◌, ◌||◌, if◌then◌else◌, ◌==◌, List, [], ◌∷◌, length, bytes_eq, Option, Some, None, refl, sym, ap, ◌∙◌, subst, arith, true≢false}
+use Rattle.std.specs.Prelude.{slice_range, codes}
 use Rattle.std.specs.List.{list_all}
 use Rattle.std.proofs.lemmas.Bool.{eqb-true, ltb-true, ltb-false, lt-ltb, leb-true}
 use Rattle.std.proofs.lemmas.Option.{none-some}
@@ -20,7 +20,7 @@ use Rattle.lv_exprs.specs.declared.symbol.Symbol.{Symbol}
 use Rattle.lv_exprs.specs.declared.symbol.Symbol.TheVariants as t
 use Rattle.lv_exprs.specs.Literals.{is_passed, is_free_digit, digit, digit_bits, digits_number, leads_free, above, from_base, first_base, behind_base, based_of}
 use Rattle.lv_exprs.specs.Literals as lit
-use Rattle.lv_exprs.specs.Symbols.{one_mark, one_sign, two_marks, two_signs, three_signs, mark_symbol, system_symbol, behind, kind_symbol, symbol, symbols}
+use Rattle.lv_exprs.specs.Symbols.{one_mark, one_sign, two_marks, two_signs, three_signs, mark_symbol, system_symbol, behind, kind_symbol, symbols}
 use Rattle.lv_print.specs.Written.{written}
 use Rattle.lv_print.proofs.DigitBack.{both, check_below, checked}
 use Rattle.lv_print.proofs.FreeBack.{Apart, apart_cut}
@@ -121,24 +121,24 @@ lead x xs j =
     elim (is_letter x) as (λ b. (if b then kind_if (is_word (x ∷ xs)) (if is_keyword (x ∷ xs) then k.Word else k.Name) else (if is_digit x then kind_if (list_all is_number_byte xs) k.Number else (if x == 92 then after_backslash xs else (if x == 36 then kind_if (is_word xs) k.System else (if x == 96 then kind_if (is_word xs) k.Tick else (if x == 39 then kind_if (is_base_and_digits (without_sign xs)) k.Based else (if x == 10 then kind_if (bytes_eq xs []) k.Line else kind_if (is_mark (x ∷ xs)) k.Mark))))))) ≡ Some j → Lead x xs j) [
       | true ↦ λ h. by_letter h
       | false ↦ elim (is_digit x) as (λ b. (if b then kind_if (list_all is_number_byte xs) k.Number else (if x == 92 then after_backslash xs else (if x == 36 then kind_if (is_word xs) k.System else (if x == 96 then kind_if (is_word xs) k.Tick else (if x == 39 then kind_if (is_base_and_digits (without_sign xs)) k.Based else (if x == 10 then kind_if (bytes_eq xs []) k.Line else kind_if (is_mark (x ∷ xs)) k.Mark)))))) ≡ Some j → Lead x xs j) [
-          | true ↦ λ h. by_digit h
-          | false ↦ elim (x == 92) as (λ b. x == 92 ≡ b → (if b then after_backslash xs else (if x == 36 then kind_if (is_word xs) k.System else (if x == 96 then kind_if (is_word xs) k.Tick else (if x == 39 then kind_if (is_base_and_digits (without_sign xs)) k.Based else (if x == 10 then kind_if (bytes_eq xs []) k.Line else kind_if (is_mark (x ∷ xs)) k.Mark))))) ≡ Some j → Lead x xs j) [
-              | true ↦ λ e h. by_backslash (eqb-true x 92 e) h
-              | false ↦ λ _. elim (x == 36) as (λ b. (if b then kind_if (is_word xs) k.System else (if x == 96 then kind_if (is_word xs) k.Tick else (if x == 39 then kind_if (is_base_and_digits (without_sign xs)) k.Based else (if x == 10 then kind_if (bytes_eq xs []) k.Line else kind_if (is_mark (x ∷ xs)) k.Mark)))) ≡ Some j → Lead x xs j) [
-                  | true ↦ λ h. by_dollar h
-                  | false ↦ elim (x == 96) as (λ b. (if b then kind_if (is_word xs) k.Tick else (if x == 39 then kind_if (is_base_and_digits (without_sign xs)) k.Based else (if x == 10 then kind_if (bytes_eq xs []) k.Line else kind_if (is_mark (x ∷ xs)) k.Mark))) ≡ Some j → Lead x xs j) [
-                      | true ↦ λ h. by_accent h
-                      | false ↦ elim (x == 39) as (λ b. x == 39 ≡ b → (if b then kind_if (is_base_and_digits (without_sign xs)) k.Based else (if x == 10 then kind_if (bytes_eq xs []) k.Line else kind_if (is_mark (x ∷ xs)) k.Mark)) ≡ Some j → Lead x xs j) [
-                          | true ↦ λ e h. by_apostrophe (eqb-true x 39 e) h
-                          | false ↦ λ _. elim (x == 10) as (λ b. (if b then kind_if (bytes_eq xs []) k.Line else kind_if (is_mark (x ∷ xs)) k.Mark) ≡ Some j → Lead x xs j) [
-                              | true ↦ λ h. by_line h
-                              | false ↦ λ h. by_mark h
-                            ]
-                        ] refl
-                    ]
+        | true ↦ λ h. by_digit h
+        | false ↦ elim (x == 92) as (λ b. x == 92 ≡ b → (if b then after_backslash xs else (if x == 36 then kind_if (is_word xs) k.System else (if x == 96 then kind_if (is_word xs) k.Tick else (if x == 39 then kind_if (is_base_and_digits (without_sign xs)) k.Based else (if x == 10 then kind_if (bytes_eq xs []) k.Line else kind_if (is_mark (x ∷ xs)) k.Mark))))) ≡ Some j → Lead x xs j) [
+          | true ↦ λ e h. by_backslash (eqb-true x 92 e) h
+          | false ↦ λ _. elim (x == 36) as (λ b. (if b then kind_if (is_word xs) k.System else (if x == 96 then kind_if (is_word xs) k.Tick else (if x == 39 then kind_if (is_base_and_digits (without_sign xs)) k.Based else (if x == 10 then kind_if (bytes_eq xs []) k.Line else kind_if (is_mark (x ∷ xs)) k.Mark)))) ≡ Some j → Lead x xs j) [
+            | true ↦ λ h. by_dollar h
+            | false ↦ elim (x == 96) as (λ b. (if b then kind_if (is_word xs) k.Tick else (if x == 39 then kind_if (is_base_and_digits (without_sign xs)) k.Based else (if x == 10 then kind_if (bytes_eq xs []) k.Line else kind_if (is_mark (x ∷ xs)) k.Mark))) ≡ Some j → Lead x xs j) [
+              | true ↦ λ h. by_accent h
+              | false ↦ elim (x == 39) as (λ b. x == 39 ≡ b → (if b then kind_if (is_base_and_digits (without_sign xs)) k.Based else (if x == 10 then kind_if (bytes_eq xs []) k.Line else kind_if (is_mark (x ∷ xs)) k.Mark)) ≡ Some j → Lead x xs j) [
+                | true ↦ λ e h. by_apostrophe (eqb-true x 39 e) h
+                | false ↦ λ _. elim (x == 10) as (λ b. (if b then kind_if (bytes_eq xs []) k.Line else kind_if (is_mark (x ∷ xs)) k.Mark) ≡ Some j → Lead x xs j) [
+                  | true ↦ λ h. by_line h
+                  | false ↦ λ h. by_mark h
                 ]
-            ] refl
-        ]
+              ] refl
+            ]
+          ]
+        ] refl
+      ]
     ]
 
 if-kind : (b : Bool) (i j : Kind) → kind_if b i ≡ Some j → (b ≡ true) × (i ≡ j)
@@ -240,9 +240,9 @@ free-same c =
     elim (c == 63) as (λ b. (b || (c == 90) || (c == 122)) ≡ false → (b || (c == 122) || (c == 90)) ≡ false) [
       | true ↦ λ h. absurd (true≢false h)
       | false ↦ elim (c == 90) as (λ b. (b || (c == 122)) ≡ false → ((c == 122) || b) ≡ false) [
-          | true ↦ λ h. absurd (true≢false h)
-          | false ↦ elim (c == 122) as (λ b. b ≡ false → (b || false) ≡ false) [ true ↦ λ h. absurd (true≢false h) | false ↦ λ h. refl ]
-        ]
+        | true ↦ λ h. absurd (true≢false h)
+        | false ↦ elim (c == 122) as (λ b. b ≡ false → (b || false) ≡ false) [ true ↦ λ h. absurd (true≢false h) | false ↦ λ h. refl ]
+      ]
     ]
 
 within-high : (low high c : ℕ) → is_between low high c ≡ true → c ≤ high
@@ -254,12 +254,12 @@ digit-small c =
     elim (is_between 48 57 c) as (λ b. is_between 48 57 c ≡ b → (if b then c - 48 else (if is_between 97 102 c then c - 87 else (if is_between 65 70 c then c - 55 else 16))) < 16 → c < 128) [
       | true ↦ λ e h. (let l : c ≤ 57 = within-high 48 57 c e in omega (arith, l))
       | false ↦ λ _. elim (is_between 97 102 c) as (λ b. is_between 97 102 c ≡ b → (if b then c - 87 else (if is_between 65 70 c then c - 55 else 16)) < 16 → c < 128) [
-          | true ↦ λ e h. (let l : c ≤ 102 = within-high 97 102 c e in omega (arith, l))
-          | false ↦ λ _. elim (is_between 65 70 c) as (λ b. is_between 65 70 c ≡ b → (if b then c - 55 else 16) < 16 → c < 128) [
-              | true ↦ λ e h. (let l : c ≤ 70 = within-high 65 70 c e in omega (arith, l))
-              | false ↦ λ _ h. absurd (omega (arith, h))
-            ] refl
+        | true ↦ λ e h. (let l : c ≤ 102 = within-high 97 102 c e in omega (arith, l))
+        | false ↦ λ _. elim (is_between 65 70 c) as (λ b. is_between 65 70 c ≡ b → (if b then c - 55 else 16) < 16 → c < 128) [
+          | true ↦ λ e h. (let l : c ≤ 70 = within-high 65 70 c e in omega (arith, l))
+          | false ↦ λ _ h. absurd (omega (arith, h))
         ] refl
+      ] refl
     ] refl
 
 digits-table : check_below (λ c. if nat_lt (digit_value c) 16 then digit c == digit_value c else true) 128 ≡ true
@@ -277,9 +277,9 @@ free-values c =
     elim (c == 63) as (λ b. c == 63 ≡ b → (b || (c == 122) || (c == 90)) ≡ true → digit_value c ≡ 16) [
       | true ↦ λ e h. ap digit_value (eqb-true c 63 e)
       | false ↦ λ _. elim (c == 122) as (λ b. c == 122 ≡ b → (b || (c == 90)) ≡ true → digit_value c ≡ 16) [
-          | true ↦ λ e h. ap digit_value (eqb-true c 122 e)
-          | false ↦ λ _ h. ap digit_value (eqb-true c 90 h)
-        ] refl
+        | true ↦ λ e h. ap digit_value (eqb-true c 122 e)
+        | false ↦ λ _ h. ap digit_value (eqb-true c 90 h)
+      ] refl
     ] refl
 
 passed-underscore : (c : ℕ) → (c == 95) ≡ true → is_passed c ≡ true
@@ -307,9 +307,9 @@ free-first c =
     elim (c == 63) as (λ b. (b || (c == 122) || (c == 90)) ≡ false → (b || (c == 90) || (c == 122)) ≡ false) [
       | true ↦ λ h. absurd (true≢false h)
       | false ↦ elim (c == 122) as (λ b. (b || (c == 90)) ≡ false → ((c == 90) || b) ≡ false) [
-          | true ↦ λ h. absurd (true≢false h)
-          | false ↦ elim (c == 90) as (λ b. b ≡ false → (b || false) ≡ false) [ true ↦ λ h. absurd (true≢false h) | false ↦ λ h. refl ]
-        ]
+        | true ↦ λ h. absurd (true≢false h)
+        | false ↦ elim (c == 90) as (λ b. b ≡ false → (b || false) ≡ false) [ true ↦ λ h. absurd (true≢false h) | false ↦ λ h. refl ]
+      ]
     ]
 
 -- a digit that is neither free nor passed over is less than its base
@@ -432,15 +432,15 @@ is-base b =
     elim ((b == 98) || (b == 66)) as (λ z. ((b == 98) || (b == 66)) ≡ z → (tok.base_of b == 0) ≡ false → IsBase b) [
       | true ↦ λ e h. power 1 (omega arith) (ap (λ z. if z then 2 else (if (b == 111) || (b == 79) then 8 else (if (b == 100) || (b == 68) then 10 else (if (b == 104) || (b == 72) then 16 else 0)))) e) (ap (λ z. if z then 2 else (if (b == 111) || (b == 79) then 8 else (if (b == 100) || (b == 68) then 10 else 16))) e)
       | false ↦ λ e. elim ((b == 111) || (b == 79)) as (λ z. ((b == 111) || (b == 79)) ≡ z → (tok.base_of b == 0) ≡ false → IsBase b) [
-          | true ↦ λ f h. power 3 (omega arith) (rw (e, f) refl) (rw (e, f) refl)
-          | false ↦ λ f. elim ((b == 100) || (b == 68)) as (λ z. ((b == 100) || (b == 68)) ≡ z → (tok.base_of b == 0) ≡ false → IsBase b) [
-              | true ↦ λ i h. ten (rw (e, f, i) refl) (rw (e, f, i) refl)
-              | false ↦ λ i. elim ((b == 104) || (b == 72)) as (λ z. ((b == 104) || (b == 72)) ≡ z → (tok.base_of b == 0) ≡ false → IsBase b) [
-                  | true ↦ λ j h. power 4 (omega arith) (rw (e, f, i, j) refl) (rw (e, f, i) refl)
-                  | false ↦ λ j h. absurd (true≢false (sym (ap (λ z. z == 0) (no-base b e f i j)) ∙ h))
-                ] refl
-            ] refl
+        | true ↦ λ f h. power 3 (omega arith) (rw (e, f) refl) (rw (e, f) refl)
+        | false ↦ λ f. elim ((b == 100) || (b == 68)) as (λ z. ((b == 100) || (b == 68)) ≡ z → (tok.base_of b == 0) ≡ false → IsBase b) [
+          | true ↦ λ i h. ten (rw (e, f, i) refl) (rw (e, f, i) refl)
+          | false ↦ λ i. elim ((b == 104) || (b == 72)) as (λ z. ((b == 104) || (b == 72)) ≡ z → (tok.base_of b == 0) ≡ false → IsBase b) [
+            | true ↦ λ j h. power 4 (omega arith) (rw (e, f, i, j) refl) (rw (e, f, i) refl)
+            | false ↦ λ j h. absurd (true≢false (sym (ap (λ z. z == 0) (no-base b e f i j)) ∙ h))
+          ] refl
         ] refl
+      ] refl
     ] refl
 
 apart-by : (b : ℕ) (s : List ℕ) → IsBase b → list_all (is_base_byte (tok.base_of b)) s ≡ true → Apart (digits_number false (lit.base_of b) 0 s) (digits_number true (lit.base_of b) (above s) s)
@@ -453,10 +453,10 @@ unfolding is_base_and_digits
 apart-body b s h =
     let q = both (not (tok.base_of b == 0)) (is_digits (tok.base_of b) (without_blanks s)) h in
     let r : Apart (digits_number false (lit.base_of b) 0 (without_blanks s)) (digits_number true (lit.base_of b) (above (without_blanks s)) (without_blanks s)) =
-      apart-by b (without_blanks s) (is-base b (not-true _ q.0)) (digits-bytes (tok.base_of b) (without_blanks s) q.1) in
+    apart-by b (without_blanks s) (is-base b (not-true _ q.0)) (digits-bytes (tok.base_of b) (without_blanks s) q.1) in
     let v : digits_number false (lit.base_of b) 0 s ≡ digits_number false (lit.base_of b) 0 (without_blanks s) = number-blanks false (lit.base_of b) 0 s in
     let w : digits_number true (lit.base_of b) (above s) s ≡ digits_number true (lit.base_of b) (above (without_blanks s)) (without_blanks s) =
-      number-blanks true (lit.base_of b) (above s) s ∙ ap (λ z. digits_number true (lit.base_of b) (if z then 2 ^ 128 - 1 else 0) (without_blanks s)) (leads-blanks s) in
+    number-blanks true (lit.base_of b) (above s) s ∙ ap (λ z. digits_number true (lit.base_of b) (if z then 2 ^ 128 - 1 else 0) (without_blanks s)) (leads-blanks s) in
     subst (λ z. Apart z (digits_number true (lit.base_of b) (above s) s)) (sym v) (subst (Apart _) (sym w) r)
 
 given-body : (place : ℕ) (signed : Bool) (s : List ℕ) → is_base_and_digits s ≡ true → AreGivenBits (lit.based_digits place signed (first_base s) (behind_base s))

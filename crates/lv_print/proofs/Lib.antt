@@ -15,5 +15,6 @@ pub mod ExprLaw
 pub mod SourceRules
 pub mod UnplacedSourceRules
 pub mod Prints
+pub mod Inside
 pub mod Productions
 pub mod SourceLaw

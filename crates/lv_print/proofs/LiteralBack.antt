@@ -1,21 +1,19 @@
 -- What is written of a literal is read as that literal.
 use Rattle.std.proofs.Common.{◌≡◌, ℕ, zero, suc, ◌+◌, ◌-◌, ◌*◌, ◌/◌, ◌%◌, ◌^◌, ◌<◌, ◌≤◌, min, nat_lt, Bool, true, false, not, ◌&&◌, ◌||◌, if◌then◌else◌, ◌==◌, List, [], ◌∷◌, ◌++◌, Option, Some, None, refl, sym, ap, ◌∙◌, subst, arith, true≢false}
 use Rattle.std.specs.List.{list_all}
-use Rattle.std.proofs.lemmas.Bool.{ltb-true, ltb-false, lt-ltb, le-ltb}
+use Rattle.std.proofs.lemmas.Bool.{ltb-true, ltb-false}
 use Rattle.std.proofs.lemmas.Nat.{mod-mul-add, pow-add, div-add-mod'}
 use Rattle.std.proofs.lemmas.Nat.Bits.{ones_shr}
 use Rattle.std.proofs.Math.Pow.{pow_pos}
-use Rattle.std.proofs.Math.Nat.{mod-lt, mod-eq_of_lt, pow-le-pow_right}
-use Rattle.lv_ast.specs.Names.{is_letter, is_between}
-use Rattle.lv_ast.specs.Tokens.{is_blank, is_digit, is_number_byte, is_free, is_sign, digit_value, base_of, is_base_digit, is_base_byte, without_sign, without_blanks, is_digits, is_base_and_digits, is_mark, kind_if, kind_of}
+use Rattle.std.proofs.Math.Nat.{mod-lt, mod-eq_of_lt}
+use Rattle.lv_ast.specs.Names.{is_letter}
+use Rattle.lv_ast.specs.Tokens.{is_blank, is_digit, is_number_byte, is_free, is_sign, digit_value, base_of, is_base_digit, is_base_byte, without_sign, without_blanks, is_digits, is_base_and_digits, kind_if, kind_of}
 use Rattle.lv_ast.specs.declared.tokens.Kind.TheVariants as k
 use Rattle.lv_ast.specs.declared.expr.Literal.{Literal}
-use Rattle.lv_exprs.specs.declared.symbol.Number.{Number}
 use Rattle.lv_exprs.specs.declared.symbol.Based.{Based}
 use Rattle.lv_exprs.specs.Literals as lit
 use Rattle.lv_exprs.specs.Literals.{is_signed_letter, is_passed, digits_number, leads_free, above, number_of, based_digits, based_of}
-use Rattle.lv_print.specs.Written.{Written, written, is_kind}
-use Rattle.lv_print.specs.Literals.{glyph, digits, decimal, hexadecimal, free_glyph, free_digits, gives_back, fewest, digits_width, sign_letter, base_and_digits, number_token, based_token}
+use Rattle.lv_print.specs.Literals.{glyph, decimal, hexadecimal, free_glyph, free_digits, gives_back, fewest, digits_width, sign_letter, base_and_digits, number_token, based_token}
 use Rattle.lv_print.proofs.Tokenized.{IsWhole}
 use Rattle.lv_print.proofs.DigitBack.{both, check_below, digits_value, digits_wild, digits_all, digits_leads, digits_some, HasFirst}
 use Rattle.lv_print.proofs.FreeBack as free
@@ -236,10 +234,10 @@ module _ (l : Literal) (given : IsGiven l) where
   hexadecimal-back : (place : ℕ) → l.wild ≡ 0 → GivesBack l (based_digits place l.signed 16 (hexadecimal l.value))
   hexadecimal-back place z =
       let v : digits_number false 16 0 (hexadecimal l.value) % 2 ^ 128 ≡ l.value =
-        ap (λ z. z % 2 ^ 128) (digits_value 16 128 l.value (omega arith) (omega arith) (omega arith) (below-sixteen l.value given.value)) ∙ mod-eq_of_lt {n = l.value} {m = 2 ^ 128} given.value in
+      ap (λ z. z % 2 ^ 128) (digits_value 16 128 l.value (omega arith) (omega arith) (omega arith) (below-sixteen l.value given.value)) ∙ mod-eq_of_lt {n = l.value} {m = 2 ^ 128} given.value in
       let a : above (hexadecimal l.value) ≡ 0 = ap (λ b. if b then 2 ^ 128 - 1 else 0) (digits_leads 16 128 l.value (omega arith) (omega arith) (omega arith)) in
       let w : digits_number true 16 (above (hexadecimal l.value)) (hexadecimal l.value) % 2 ^ 128 ≡ 0 =
-        ap (λ z. digits_number true 16 z (hexadecimal l.value) % 2 ^ 128) a ∙ ap (λ z. z % 2 ^ 128) (digits_wild 16 128 l.value (omega arith) (omega arith)) in
+      ap (λ z. digits_number true 16 z (hexadecimal l.value) % 2 ^ 128) a ∙ ap (λ z. z % 2 ^ 128) (digits_wild 16 128 l.value (omega arith) (omega arith)) in
       record {
         signed = refl;
         value = ap (cut_by l.size) v ∙ given.value_cut;
@@ -264,7 +262,7 @@ module _ (l : Literal) (given : IsGiven l) where
       let e : p ≡ (p - 1) + 1 = omega (arith, a) in
       let f : q ≡ (q - 1) + 1 = omega (arith, a, b) in
       let g : (q - 1) * p + r ≡ (p - 1) * q + (q - p + r) =
-        ap (λ z. (q - 1) * z + r) e ∙ swap (p - 1) (q - 1) r (omega (arith, b)) ∙ ap (λ z. (p - 1) * z + (z - ((p - 1) + 1) + r)) (sym f) ∙ ap (λ z. (p - 1) * q + (q - z + r)) (sym e) in
+      ap (λ z. (q - 1) * z + r) e ∙ swap (p - 1) (q - 1) r (omega (arith, b)) ∙ ap (λ z. (p - 1) * z + (z - ((p - 1) + 1) + r)) (sym f) ∙ ap (λ z. (p - 1) * q + (q - z + r)) (sym e) in
       ap (λ z. z % q) g ∙ mod-mul-add (p - 1) q (q - p + r) (omega (arith, a, b, c))
 
   smaller : (p q n d r : ℕ) → q ≡ d * n → 1 ≤ d → 1 ≤ p → p ≤ n → r < p → (q - p + r) % n ≡ n - p + r
@@ -328,12 +326,12 @@ module _ (l : Literal) (given : IsGiven l) where
       let r : l.wild % 2 ^ suc k < 2 ^ suc k = mod-lt l.wild {m = 2 ^ suc k} s in
       let whole-value : l.value % 2 ^ suc k ≡ l.value = under l.value (2 ^ suc k) g.value in
       let v : digits_number false 2 0 (free_digits (suc k) l.value l.wild) % 2 ^ 128 ≡ l.value =
-        ap (λ z. z % 2 ^ 128) (free_value (suc k) l.value l.wild given.apart ∙ whole-value) ∙ mod-eq_of_lt {n = l.value} {m = 2 ^ 128} given.value in
+      ap (λ z. z % 2 ^ 128) (free_value (suc k) l.value l.wild given.apart ∙ whole-value) ∙ mod-eq_of_lt {n = l.value} {m = 2 ^ 128} given.value in
       let a : above (free_digits (suc k) l.value l.wild) ≡ (if t then 2 ^ 128 - 1 else 0) = ap (λ b. if b then 2 ^ 128 - 1 else 0) (free_leads k l.value l.wild ∙ e) in
       let w : digits_number true 2 (above (free_digits (suc k) l.value l.wild)) (free_digits (suc k) l.value l.wild) ≡ (if t then 2 ^ 128 - 1 else 0) * 2 ^ suc k + l.wild % 2 ^ suc k =
-        ap (λ z. digits_number true 2 z (free_digits (suc k) l.value l.wild)) a ∙ free_wild (suc k) (if t then 2 ^ 128 - 1 else 0) l.value l.wild in
+      ap (λ z. digits_number true 2 z (free_digits (suc k) l.value l.wild)) a ∙ free_wild (suc k) (if t then 2 ^ 128 - 1 else 0) l.value l.wild in
       let q : l.wild / 2 ^ suc k ≡ (if t then (2 ^ width - 1) / 2 ^ suc k else 0) =
-        g.wild ∙ ap (λ j. if (l.wild / 2 ^ j) % 2 == 1 then (2 ^ width - 1) / 2 ^ suc k else 0) n ∙ ap (λ b. if b then (2 ^ width - 1) / 2 ^ suc k else 0) e in
+      g.wild ∙ ap (λ j. if (l.wild / 2 ^ j) % 2 == 1 then (2 ^ width - 1) / 2 ^ suc k else 0) n ∙ ap (λ b. if b then (2 ^ width - 1) / 2 ^ suc k else 0) e in
       record {
         signed = refl;
         value = ap (cut_by l.size) v ∙ given.value_cut;
@@ -348,17 +346,17 @@ module _ (l : Literal) (given : IsGiven l) where
       let least : 1 ≤ count = i.least in
       let n : count ≡ suc (count - 1) = omega (arith, least) in
       let same : based_of place (based_token l).bytes ≡ based_digits place l.signed 2 (free_digits count l.value l.wild) =
-        ap (λ b. based_of place (39 ∷ (sign_letter l.signed ++ (if b then 98 ∷ free_digits count l.value l.wild else 104 ∷ hexadecimal l.value)))) e ∙
-        read-signed place 98 2 (free_digits count l.value l.wild) l.signed refl refl in
+      ap (λ b. based_of place (39 ∷ (sign_letter l.signed ++ (if b then 98 ∷ free_digits count l.value l.wild else 104 ∷ hexadecimal l.value)))) e ∙
+      read-signed place 98 2 (free_digits count l.value l.wild) l.signed refl refl in
       let g : GivesDigits width l.value l.wild (suc (count - 1)) = subst (GivesDigits width l.value l.wild) n (gives_digits width l.value l.wild count i.passes) in
       let back : GivesBack l (based_digits place l.signed 2 (free_digits (suc (count - 1)) l.value l.wild)) =
-        free-back-by (count - 1) place _ (subst (λ z. z ≤ width) n i.most) d.most refl g in
+      free-back-by (count - 1) place _ (subst (λ z. z ≤ width) n i.most) d.most refl g in
       subst (GivesBack l) (sym (same ∙ ap (λ z. based_digits place l.signed 2 (free_digits z l.value l.wild)) n)) back
   back-by place false e =
       let z : l.wild ≡ 0 = (let f : l.wild ≤ 0 = ltb-false 0 l.wild e in omega (arith, f)) in
       let same : based_of place (based_token l).bytes ≡ based_digits place l.signed 16 (hexadecimal l.value) =
-        ap (λ b. based_of place (39 ∷ (sign_letter l.signed ++ (if b then 98 ∷ free_digits count l.value l.wild else 104 ∷ hexadecimal l.value)))) e ∙
-        read-signed place 104 16 (hexadecimal l.value) l.signed refl refl in
+      ap (λ b. based_of place (39 ∷ (sign_letter l.signed ++ (if b then 98 ∷ free_digits count l.value l.wild else 104 ∷ hexadecimal l.value)))) e ∙
+      read-signed place 104 16 (hexadecimal l.value) l.signed refl refl in
       subst (GivesBack l) (sym same) (hexadecimal-back place z)
 
 pub based_whole : (l : Literal) → IsGiven l → IsWhole (based_token l)

@@ -1,5 +1,5 @@
 -- What is written on a paper in steps.
-use Rattle.std.proofs.Common.{◌≡◌, ℕ, suc, ◌+◌, ◌<◌, ◌≤◌, Bool, true, false, if◌then◌else◌, List, [], ◌∷◌, ◌++◌, map, length, drop, get_or, refl, sym, ap, ◌∙◌, arith, drop-cons}
+use Rattle.std.proofs.Common.{◌≡◌, ℕ, suc, ◌+◌, ◌<◌, ◌≤◌, Bool, true, false, List, [], ◌∷◌, ◌++◌, map, length, drop, get_or, refl, sym, ap, ◌∙◌, arith, drop-cons}
 use Rattle.std.proofs.lemmas.List.{drop_all}
 use Rattle.std.specs.Prelude.{codes, Result, OnOk, Ok, Err}
 use Rattle.lv_bits.specs.declared.text.NoMemory.{NoMemory}
@@ -157,4 +157,5 @@ unfolding expr_tokens select_tokens
 tokens-Down a b = fold.fold_select-Down (List Written) (List Written) expr_step select_step a b
 
 pub ruleset writing = (with-none, with-more, with-append, ok-same)
+
 pub ruleset expr_rules = (writing, tokens-Lit, tokens-Name, tokens-Un, tokens-Bin, tokens-Div, tokens-Rem, tokens-Cond, tokens-Cat, tokens-Rep, tokens-Cast, tokens-Bit, tokens-Part, tokens-Up, tokens-Down)

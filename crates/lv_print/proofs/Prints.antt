@@ -1,16 +1,15 @@
 -- What is written of a tree of a grammar spells it again, but for places: from what is so of the grammar's parts. A printer c of a
 -- grammar's trees goes with the function u that takes their places away.
-use Rattle.std.proofs.Common.{◌≡◌, ℕ, ◌+◌, ◌^◌, ◌<◌, ◌≤◌, Bool, true, false, ◌&&◌, ◌||◌, if◌then◌else◌, ◌==◌, List, [], ◌∷◌, ◌++◌, map, Option, Some, None, bytes_eq, refl, sym, ap, ◌∙◌, subst, arith, append-nil, append_assoc, true≢false}
-use Rattle.std.specs.Prelude.{option_map, codes, slice_range}
+use Rattle.std.proofs.Common.{◌≡◌, ℕ, Bool, true, false, ◌&&◌, ◌||◌, if◌then◌else◌, List, [], ◌∷◌, ◌++◌, map, Option, Some, None, bytes_eq, refl, sym, ap, ◌∙◌, subst, append-nil, true≢false}
+use Rattle.std.specs.Prelude.{option_map, codes}
 use Rattle.std.proofs.lemmas.Slice.Eq.{bytes_eq-Decides}
 use Rattle.lv_ast.specs.Names.{is_simple}
 use Rattle.lv_ast.specs.Tokens.{kind_of, is_mark, is_digit, token_bytes, tail}
 use Rattle.lv_ast.specs.declared.tokens.Kind.{Kind}
 use Rattle.lv_ast.specs.declared.tokens.Kind.TheVariants as k
 use Rattle.lv_ast.specs.declared.tokens.Token.{Token}
-use Rattle.lv_ast.specs.declared.stmt.Ident.{Ident}
-use Rattle.lv_viable.specs.Grammar.{Gram, OneOf, left, right, none, one, leaf, call, act, both, either, perhaps, many, until, tail as tailed}
-use Rattle.lv_viable.specs.Spelling.{last_open, SpellsAll, SpellsPerhaps, SpellsEither, SpellsTail, Leaves, Calls, Spells}
+use Rattle.lv_viable.specs.Grammar.{Gram, OneOf, left, right, none, one, call, act, both, either, perhaps, many, until, tail as tailed}
+use Rattle.lv_viable.specs.Spelling.{last_open, SpellsAll, SpellsPerhaps, SpellsTail, Leaves, Calls, Spells}
 use Rattle.lv_parser.specs.Lexemes.{Lexeme, lexeme, lexemes, name_by, ident_of}
 use Rattle.lv_parser.specs.Shapes.{Shape, word, mark, name, Rule, tree_of, base}
 use Rattle.lv_parser.specs.Rules.{comma, colon, list, first_and_others, behind, ident, default_words}
@@ -106,12 +105,12 @@ module _ (old : List ℕ) (L : Leaves base) (C : Calls base) (L' : List ℕ → 
       whole = (whole, tt);
       empty = ap is_nil s.0;
       again = λ bytes ts a.
-        let b : Behind bytes ts v [] = behind_of bytes ts v [] a in
-        record {
-          tree = lexeme bytes b.token;
-          spelled = (ap (lexemes bytes) b.cut ∙ ap (λ z. lexeme bytes b.token ∷ lexemes bytes z) b.are, fit (lexeme bytes b.token) b.at.kind b.at.bytes, s.2);
-          same = refl;
-        };
+          let b : Behind bytes ts v [] = behind_of bytes ts v [] a in
+          record {
+            tree = lexeme bytes b.token;
+            spelled = (ap (lexemes bytes) b.cut ∙ ap (λ z. lexeme bytes b.token ∷ lexemes bytes z) b.are, fit (lexeme bytes b.token) b.at.kind b.at.bytes, s.2);
+            same = refl;
+          };
     };
   }
 
@@ -147,90 +146,113 @@ module _ (old : List ℕ) (L : Leaves base) (C : Calls base) (L' : List ℕ → 
   pub prints_name : Prints (one name) (λ t. w.name (name_bytes t) ∷ []) bare
   prints_name = record {
     prints = λ us o x good s.
-      let g : AreGood old (x ∷ []) = subst (AreGood old) s.0 good in
-      let i : IsWritable (name_bytes x) = name-kinds x x.kind refl s.1 g.0.kind in
-      record {
-        whole = (whole_name (name_bytes x) i, tt);
-        empty = ap is_nil s.0;
-        again = λ bytes ts a.
-          let b : Behind bytes ts (w.name (name_bytes x)) [] = behind_of bytes ts _ [] a in
-          let q = named-at bytes b.token (name_bytes x) (is_simple (name_bytes x)) b.at in
-          record {
-            tree = lexeme bytes b.token;
-            spelled = (ap (lexemes bytes) b.cut ∙ ap (λ z. lexeme bytes b.token ∷ lexemes bytes z) b.are, q.0, s.2);
-            same = λ j. record { kind = k.Name; bytes = q.1 j; start = 0; end = 0 };
-          };
-      };
+        let g : AreGood old (x ∷ []) = subst (AreGood old) s.0 good in
+        let i : IsWritable (name_bytes x) = name-kinds x x.kind refl s.1 g.0.kind in
+        record {
+          whole = (whole_name (name_bytes x) i, tt);
+          empty = ap is_nil s.0;
+          again = λ bytes ts a.
+              let b : Behind bytes ts (w.name (name_bytes x)) [] = behind_of bytes ts _ [] a in
+              let q = named-at bytes b.token (name_bytes x) (is_simple (name_bytes x)) b.at in
+              record {
+                tree = lexeme bytes b.token;
+                spelled = (ap (lexemes bytes) b.cut ∙ ap (λ z. lexeme bytes b.token ∷ lexemes bytes z) b.are, q.0, s.2);
+                same = λ j. record { kind = k.Name; bytes = q.1 j; start = 0; end = 0 };
+              };
+        };
   }
 
   -- ---- ways of joining
 
   pub prints_none : Prints none (λ x. []) (λ x. x)
-  prints_none = record { prints = λ us o x good s. record {
-    whole = tt;
-    empty = ap is_nil s.0;
-    again = λ bytes ts a. record { tree = x; spelled = (ap (lexemes bytes) a, s.1); same = refl };
-  } }
+  prints_none = record {
+    prints = λ us o x good s. record {
+      whole = tt;
+      empty = ap is_nil s.0;
+      again = λ bytes ts a. record { tree = x; spelled = (ap (lexemes bytes) a, s.1); same = refl };
+    };
+  }
 
   pub prints_act : {A B : Type 0} (f : A → B) (g : Gram base A) (c : A → List Written) (u : A → A) (d : B → List Written) (v : B → B) →
       ((x : A) → d (f x) ≡ c x) → ((x : A) → v (f x) ≡ f (u x)) → Prints g c u → Prints (act f g) d v
-  prints_act f g c u d v e n h = record { prints = λ us o x good s.
-    let q : IsPrinted g c u us o s.0 = h.prints us o s.0 good s.1 in
-    let same : d x ≡ c s.0 = ap d (sym s.2) ∙ e s.0 in
-    record {
-      whole = subst AreWhole (sym same) q.whole;
-      empty = q.empty ∙ ap is_nil (sym same);
-      again = λ bytes ts a.
-        let r : Again g u o s.0 bytes ts = q.again bytes ts (subst (Are bytes ts) same a) in
-        record { tree = f r.tree; spelled = (r.tree, r.spelled, refl); same = n r.tree ∙ ap f r.same ∙ sym (n s.0) ∙ ap v s.2 };
-    } }
+  prints_act f g c u d v e n h = record {
+    prints = λ us o x good s.
+        let q : IsPrinted g c u us o s.0 = h.prints us o s.0 good s.1 in
+        let same : d x ≡ c s.0 = ap d (sym s.2) ∙ e s.0 in
+        record {
+          whole = subst AreWhole (sym same) q.whole;
+          empty = q.empty ∙ ap is_nil (sym same);
+          again = λ bytes ts a.
+              let r : Again g u o s.0 bytes ts = q.again bytes ts (subst (Are bytes ts) same a) in
+              record { tree = f r.tree; spelled = (r.tree, r.spelled, refl); same = n r.tree ∙ ap f r.same ∙ sym (n s.0) ∙ ap v s.2 };
+        };
+  }
 
   -- where more is known of a tree that is spelled
   pub prints_where : {A B : Type 0} (f : A → B) (g : Gram base A) (c : A → List Written) (u : A → A) (d : B → List Written) (v : B → B) →
       ((us : List Lexeme) (o : Bool) (x : A) → Spells base L C g us o x → d (f x) ≡ c x) → ((x : A) → v (f x) ≡ f (u x)) → Prints g c u → Prints (act f g) d v
-  prints_where f g c u d v e n h = record { prints = λ us o x good s.
-    let q : IsPrinted g c u us o s.0 = h.prints us o s.0 good s.1 in
-    let same : d x ≡ c s.0 = ap d (sym s.2) ∙ e us o s.0 s.1 in
-    record {
-      whole = subst AreWhole (sym same) q.whole;
-      empty = q.empty ∙ ap is_nil (sym same);
-      again = λ bytes ts a.
-        let r : Again g u o s.0 bytes ts = q.again bytes ts (subst (Are bytes ts) same a) in
-        record { tree = f r.tree; spelled = (r.tree, r.spelled, refl); same = n r.tree ∙ ap f r.same ∙ sym (n s.0) ∙ ap v s.2 };
-    } }
+  prints_where f g c u d v e n h = record {
+    prints = λ us o x good s.
+        let q : IsPrinted g c u us o s.0 = h.prints us o s.0 good s.1 in
+        let same : d x ≡ c s.0 = ap d (sym s.2) ∙ e us o s.0 s.1 in
+        record {
+          whole = subst AreWhole (sym same) q.whole;
+          empty = q.empty ∙ ap is_nil (sym same);
+          again = λ bytes ts a.
+              let r : Again g u o s.0 bytes ts = q.again bytes ts (subst (Are bytes ts) same a) in
+              record { tree = f r.tree; spelled = (r.tree, r.spelled, refl); same = n r.tree ∙ ap f r.same ∙ sym (n s.0) ∙ ap v s.2 };
+        };
+  }
 
   pub prints_both : {A B : Type 0} (g : Gram base A) (h : Gram base B) (c : A → List Written) (d : B → List Written) (u : A → A) (v : B → B) →
       Prints g c u → Prints h d v → Prints (both g h) (λ p. c p.0 ++ d p.1) (λ p. (u p.0, v p.1))
-  prints_both g h c d u v i j = record { prints = λ ts o x good s.
-    let split = good-cut old s.0 s.1 (subst (AreGood old) s.4 good) in
-    let q : IsPrinted g c u s.0 s.2 x.0 = i.prints s.0 s.2 x.0 split.0 s.5 in
-    let r : IsPrinted h d v s.1 s.3 x.1 = j.prints s.1 s.3 x.1 split.1 s.6 in
-    record {
-      whole = whole_append (c x.0) (d x.1) q.whole r.whole;
-      empty = ap is_nil s.4 ∙ nil-append s.0 s.1 (c x.0) (d x.1) q.empty r.empty;
-      again = λ bytes us a.
-        let b : Cut bytes us (c x.0) (d x.1) = cut_of bytes us (c x.0) (d x.1) a in
-        let m : Again g u s.2 x.0 bytes b.front = q.again bytes b.front b.front_are in
-        let n : Again h v s.3 x.1 bytes b.back = r.again bytes b.back b.back_are in
+  prints_both g h c d u v i j = record {
+    prints = λ ts o x good s.
+        let split = good-cut old s.0 s.1 (subst (AreGood old) s.4 good) in
+        let q : IsPrinted g c u s.0 s.2 x.0 = i.prints s.0 s.2 x.0 split.0 s.5 in
+        let r : IsPrinted h d v s.1 s.3 x.1 = j.prints s.1 s.3 x.1 split.1 s.6 in
         record {
-          tree = (m.tree, n.tree);
-          spelled =
-            (lexemes bytes b.front, lexemes bytes b.back, s.2, s.3, ap (lexemes bytes) b.cut ∙ lexemes-append bytes b.front b.back, m.spelled, n.spelled,
-             s.7 ∙ last-open s.1 (lexemes bytes b.back) s.2 s.3 (r.empty ∙ are-nil bytes b.back (d x.1) b.back_are));
-          same = λ z. (m.same z, n.same z);
+          whole = whole_append (c x.0) (d x.1) q.whole r.whole;
+          empty = ap is_nil s.4 ∙ nil-append s.0 s.1 (c x.0) (d x.1) q.empty r.empty;
+          again = λ bytes us a.
+              let b : Cut bytes us (c x.0) (d x.1) = cut_of bytes us (c x.0) (d x.1) a in
+              let m : Again g u s.2 x.0 bytes b.front = q.again bytes b.front b.front_are in
+              let n : Again h v s.3 x.1 bytes b.back = r.again bytes b.back b.back_are in
+              record {
+                tree = (m.tree, n.tree);
+                spelled = (
+                  lexemes bytes b.front,
+                  lexemes bytes b.back,
+                  s.2,
+                  s.3,
+                  ap (lexemes bytes) b.cut ∙ lexemes-append bytes b.front b.back,
+                  m.spelled,
+                  n.spelled,
+                  s.7 ∙ last-open s.1 (lexemes bytes b.back) s.2 s.3 (r.empty ∙ are-nil bytes b.back (d x.1) b.back_are),
+                );
+                same = λ z. (m.same z, n.same z);
+              };
         };
-    } }
+  }
 
   prints-either : {A B : Type 0} (g : Gram base A) (h : Gram base B) (c : A → List Written) (d : B → List Written) (u : A → A) (v : B → B) → Prints g c u → Prints h d v →
       (us : List Lexeme) (o : Bool) (x : OneOf A B) → AreGood old us → Spells base L C (either g h) us o x → IsPrinted (either g h) (on_left_or_right c d) (each_side u v) us o x
   prints-either g h c d u v i j us o (left x) good s =
       let q : IsPrinted g c u us o x = i.prints us o x good s in
-      record { whole = q.whole; empty = q.empty; again = λ bytes ts a.
-        let r : Again g u o x bytes ts = q.again bytes ts a in record { tree = left r.tree; spelled = r.spelled; same = ap left r.same } }
+      record {
+        whole = q.whole;
+        empty = q.empty;
+        again = λ bytes ts a.
+            let r : Again g u o x bytes ts = q.again bytes ts a in record { tree = left r.tree; spelled = r.spelled; same = ap left r.same };
+      }
   prints-either g h c d u v i j us o (right y) good s =
       let q : IsPrinted h d v us o y = j.prints us o y good s in
-      record { whole = q.whole; empty = q.empty; again = λ bytes ts a.
-        let r : Again h v o y bytes ts = q.again bytes ts a in record { tree = right r.tree; spelled = r.spelled; same = ap right r.same } }
+      record {
+        whole = q.whole;
+        empty = q.empty;
+        again = λ bytes ts a.
+            let r : Again h v o y bytes ts = q.again bytes ts a in record { tree = right r.tree; spelled = r.spelled; same = ap right r.same };
+      }
 
   pub prints_either : {A B : Type 0} (g : Gram base A) (h : Gram base B) (c : A → List Written) (d : B → List Written) (u : A → A) (v : B → B) → Prints g c u → Prints h d v →
       Prints (either g h) (on_left_or_right c d) (each_side u v)
@@ -241,8 +263,12 @@ module _ (old : List ℕ) (L : Leaves base) (C : Calls base) (L' : List ℕ → 
   prints-perhaps g c u i us o None good s = record { whole = tt; empty = ap is_nil s.0; again = λ bytes ts a. record { tree = None; spelled = (ap (lexemes bytes) a, s.1); same = refl } }
   prints-perhaps g c u i us o (Some x) good s =
       let q : IsPrinted g c u us o x = i.prints us o x good s in
-      record { whole = q.whole; empty = q.empty; again = λ bytes ts a.
-        let r : Again g u o x bytes ts = q.again bytes ts a in record { tree = Some r.tree; spelled = r.spelled; same = ap (λ z. Some z) r.same } }
+      record {
+        whole = q.whole;
+        empty = q.empty;
+        again = λ bytes ts a.
+            let r : Again g u o x bytes ts = q.again bytes ts a in record { tree = Some r.tree; spelled = r.spelled; same = ap (λ z. Some z) r.same };
+      }
 
   pub prints_perhaps : {A : Type 0} (g : Gram base A) (c : A → List Written) (u : A → A) → Prints g c u → Prints (perhaps g) (sources.perhaps c) (option_map u)
   prints_perhaps g c u i = record { prints = prints-perhaps g c u i }
@@ -270,39 +296,52 @@ module _ (old : List ℕ) (L : Leaves base) (C : Calls base) (L' : List ℕ → 
         whole = subst AreWhole (sym e) (whole_append (c x) (joined (map c xs)) q.whole r.whole);
         empty = ap is_nil s.4 ∙ nil-append s.0 s.1 (c x) (joined (map c xs)) q.empty r.empty ∙ ap is_nil (sym e);
         again = λ bytes ts a.
-          let b : Cut bytes ts (c x) (joined (map c xs)) = cut_of bytes ts (c x) (joined (map c xs)) (subst (Are bytes ts) e a) in
-          let m : Again g u s.2 x bytes b.front = q.again bytes b.front b.front_are in
-          let n = r.again bytes b.back b.back_are in
-          (m.tree ∷ n.0,
-           (lexemes bytes b.front, lexemes bytes b.back, s.2, s.3, ap (lexemes bytes) b.cut ∙ lexemes-append bytes b.front b.back, m.spelled, n.1,
-            s.7 ∙ last-open s.1 (lexemes bytes b.back) s.2 s.3 (r.empty ∙ are-nil bytes b.back (joined (map c xs)) b.back_are)),
-           ap (λ z. z ∷ map u n.0) m.same ∙ ap (λ z. u x ∷ z) n.2);
+            let b : Cut bytes ts (c x) (joined (map c xs)) = cut_of bytes ts (c x) (joined (map c xs)) (subst (Are bytes ts) e a) in
+            let m : Again g u s.2 x bytes b.front = q.again bytes b.front b.front_are in
+            let n = r.again bytes b.back b.back_are in (
+              m.tree ∷ n.0,
+              (
+                lexemes bytes b.front,
+                lexemes bytes b.back,
+                s.2,
+                s.3,
+                ap (lexemes bytes) b.cut ∙ lexemes-append bytes b.front b.back,
+                m.spelled,
+                n.1,
+                s.7 ∙ last-open s.1 (lexemes bytes b.back) s.2 s.3 (r.empty ∙ are-nil bytes b.back (joined (map c xs)) b.back_are),
+              ),
+              ap (λ z. z ∷ map u n.0) m.same ∙ ap (λ z. u x ∷ z) n.2,
+            );
       }
 
   pub prints_many : {A : Type 0} (g : Gram base A) (c : A → List Written) (u : A → A) → Prints g c u → Prints (many g) (λ xs. joined (map c xs)) (map u)
-  prints_many g c u i = record { prints = λ us o xs good s.
-    let q : IsPrintedAll g c u us o xs = all g c u i us o xs good s in
-    record { whole = q.whole; empty = q.empty; again = λ bytes ts a. (let r = q.again bytes ts a in record { tree = r.0; spelled = r.1; same = r.2 }) } }
+  prints_many g c u i = record {
+    prints = λ us o xs good s.
+        let q : IsPrintedAll g c u us o xs = all g c u i us o xs good s in
+        record { whole = q.whole; empty = q.empty; again = λ bytes ts a. (let r = q.again bytes ts a in record { tree = r.0; spelled = r.1; same = r.2 }) };
+  }
 
   pub prints_until : {A B : Type 0} (g : Gram base A) (h : Gram base B) (c : A → List Written) (d : B → List Written) (u : A → A) (v : B → B) → Prints g c u → Prints h d v →
       Prints (until g h) (λ p. joined (map c p.0) ++ d p.1) (λ p. (map u p.0, v p.1))
-  prints_until g h c d u v i j = record { prints = λ ts o x good s.
-    let split = good-cut old s.0 s.1 (subst (AreGood old) s.3 good) in
-    let q : IsPrintedAll g c u s.0 s.2 x.0 = all g c u i s.0 s.2 x.0 split.0 s.4 in
-    let r : IsPrinted h d v s.1 o x.1 = j.prints s.1 o x.1 split.1 s.5 in
-    record {
-      whole = whole_append (joined (map c x.0)) (d x.1) q.whole r.whole;
-      empty = ap is_nil s.3 ∙ nil-append s.0 s.1 (joined (map c x.0)) (d x.1) q.empty r.empty;
-      again = λ bytes us a.
-        let b : Cut bytes us (joined (map c x.0)) (d x.1) = cut_of bytes us (joined (map c x.0)) (d x.1) a in
-        let m = q.again bytes b.front b.front_are in
-        let n : Again h v o x.1 bytes b.back = r.again bytes b.back b.back_are in
+  prints_until g h c d u v i j = record {
+    prints = λ ts o x good s.
+        let split = good-cut old s.0 s.1 (subst (AreGood old) s.3 good) in
+        let q : IsPrintedAll g c u s.0 s.2 x.0 = all g c u i s.0 s.2 x.0 split.0 s.4 in
+        let r : IsPrinted h d v s.1 o x.1 = j.prints s.1 o x.1 split.1 s.5 in
         record {
-          tree = (m.0, n.tree);
-          spelled = (lexemes bytes b.front, lexemes bytes b.back, s.2, ap (lexemes bytes) b.cut ∙ lexemes-append bytes b.front b.back, m.1, n.spelled);
-          same = λ z. (m.2 z, n.same z);
+          whole = whole_append (joined (map c x.0)) (d x.1) q.whole r.whole;
+          empty = ap is_nil s.3 ∙ nil-append s.0 s.1 (joined (map c x.0)) (d x.1) q.empty r.empty;
+          again = λ bytes us a.
+              let b : Cut bytes us (joined (map c x.0)) (d x.1) = cut_of bytes us (joined (map c x.0)) (d x.1) a in
+              let m = q.again bytes b.front b.front_are in
+              let n : Again h v o x.1 bytes b.back = r.again bytes b.back b.back_are in
+              record {
+                tree = (m.0, n.tree);
+                spelled = (lexemes bytes b.front, lexemes bytes b.back, s.2, ap (lexemes bytes) b.cut ∙ lexemes-append bytes b.front b.back, m.1, n.spelled);
+                same = λ z. (m.2 z, n.same z);
+              };
         };
-    } }
+  }
 
   -- a tail behind a mark of a fixed token
   prints-tail : {B : Type 0} (r : Rule) (s : List ℕ) (h : Gram base B) (c : tree_of r → List Written) (d : B → List Written) (u : tree_of r → tree_of r) (v : B → B) → kind_of s ≡ Some k.Word →
@@ -324,17 +363,23 @@ module _ (old : List ℕ) (L : Leaves base) (C : Calls base) (L' : List ℕ → 
         whole = whole_append (c x) (w.word s ∷ d y) q.whole (record { ordinary = refl; kind = e; apostrophe = λ f. absurd (true≢false (sym f)) }, n.whole);
         empty = ap is_nil z.3 ∙ nil-append z.0 (z.1 ∷ z.2) (c x) (w.word s ∷ d y) q.empty refl;
         again = λ bytes ts a.
-          let b : Cut bytes ts (c x) (w.word s ∷ d y) = cut_of bytes ts (c x) (w.word s ∷ d y) a in
-          let t : Behind bytes b.back (w.word s) (d y) = behind_of bytes b.back _ _ b.back_are in
-          let m : Again (call r) u false x bytes b.front = q.again bytes b.front b.front_are in
-          let l : Again h v o y bytes t.rest = n.again bytes t.rest t.are in
-          record {
-            tree = (m.tree, Some l.tree);
-            spelled =
-              (lexemes bytes b.front, lexeme bytes t.token, lexemes bytes t.rest, ap (lexemes bytes) b.cut ∙ lexemes-append bytes b.front b.back ∙ ap (λ f. lexemes bytes b.front ++ lexemes bytes f) t.cut, m.spelled,
-               ap (λ f. w.is_kind k.Word f && bytes_eq s (token_bytes bytes t.token)) t.at.kind ∙ same-bytes s (token_bytes bytes t.token) t.at.bytes, l.spelled);
-            same = λ f. (m.same f, Some (l.same f));
-          };
+            let b : Cut bytes ts (c x) (w.word s ∷ d y) = cut_of bytes ts (c x) (w.word s ∷ d y) a in
+            let t : Behind bytes b.back (w.word s) (d y) = behind_of bytes b.back _ _ b.back_are in
+            let m : Again (call r) u false x bytes b.front = q.again bytes b.front b.front_are in
+            let l : Again h v o y bytes t.rest = n.again bytes t.rest t.are in
+            record {
+              tree = (m.tree, Some l.tree);
+              spelled = (
+                lexemes bytes b.front,
+                lexeme bytes t.token,
+                lexemes bytes t.rest,
+                ap (lexemes bytes) b.cut ∙ lexemes-append bytes b.front b.back ∙ ap (λ f. lexemes bytes b.front ++ lexemes bytes f) t.cut,
+                m.spelled,
+                ap (λ f. w.is_kind k.Word f && bytes_eq s (token_bytes bytes t.token)) t.at.kind ∙ same-bytes s (token_bytes bytes t.token) t.at.bytes,
+                l.spelled,
+              );
+              same = λ f. (m.same f, Some (l.same f));
+            };
       }
 
   pub prints_tail : {B : Type 0} (r : Rule) (s : List ℕ) (h : Gram base B) (c : tree_of r → List Written) (d : B → List Written) (u : tree_of r → tree_of r) (v : B → B) → kind_of s ≡ Some k.Word →
@@ -376,23 +421,29 @@ module _ (old : List ℕ) (L : Leaves base) (C : Calls base) (L' : List ℕ → 
   closed-colon vs q (Some t) h = h.2
 
   pub prints_default : kind_of (codes "default") ≡ Some k.Word → kind_of (codes ":") ≡ Some k.Mark → Prints default_words (λ p. w.word (codes "default") ∷ w.mark (codes ":") ∷ []) (λ p. (plain p.0, None))
-  prints_default kd kc = record { prints = λ us o x good s. record {
-    whole = (record { ordinary = refl; kind = kd; apostrophe = λ e. absurd (true≢false (sym e)) }, (whole_mark (codes ":") kc, tt));
-    empty = ap is_nil (s.4 ∙ ap (λ z. z ++ s.1) s.5.0);
-    again = λ bytes ts a.
-      let b : Behind bytes ts (w.word (codes "default")) (w.mark (codes ":") ∷ []) = behind_of bytes ts _ _ a in
-      let m : Behind bytes b.rest (w.mark (codes ":")) [] = behind_of bytes b.rest _ _ b.are in
-      record {
-        tree = (lexeme bytes b.token, Some (lexeme bytes m.token));
-        spelled =
-          (lexeme bytes b.token ∷ [], lexeme bytes m.token ∷ [], false, false,
-           ap (lexemes bytes) b.cut ∙ ap (λ z. lexeme bytes b.token ∷ lexemes bytes z) m.cut ∙ ap (λ z. lexeme bytes b.token ∷ lexeme bytes m.token ∷ lexemes bytes z) m.are,
-           (refl, ap (λ j. w.is_kind k.Word j && bytes_eq (codes "default") (token_bytes bytes b.token)) b.at.kind ∙ same-bytes (codes "default") (token_bytes bytes b.token) b.at.bytes, refl),
-           (refl, ap (λ j. w.is_kind k.Mark j && bytes_eq (codes ":") (token_bytes bytes m.token)) m.at.kind ∙ same-bytes (codes ":") (token_bytes bytes m.token) m.at.bytes, refl),
-           s.7 ∙ closed-tail s.1 s.2 s.3 s.5.2 (closed-colon s.1 s.3 x.1 s.6));
-        same = refl;
-      };
-  } }
+  prints_default kd kc = record {
+    prints = λ us o x good s. record {
+      whole = (record { ordinary = refl; kind = kd; apostrophe = λ e. absurd (true≢false (sym e)) }, (whole_mark (codes ":") kc, tt));
+      empty = ap is_nil (s.4 ∙ ap (λ z. z ++ s.1) s.5.0);
+      again = λ bytes ts a.
+          let b : Behind bytes ts (w.word (codes "default")) (w.mark (codes ":") ∷ []) = behind_of bytes ts _ _ a in
+          let m : Behind bytes b.rest (w.mark (codes ":")) [] = behind_of bytes b.rest _ _ b.are in
+          record {
+            tree = (lexeme bytes b.token, Some (lexeme bytes m.token));
+            spelled = (
+              lexeme bytes b.token ∷ [],
+              lexeme bytes m.token ∷ [],
+              false,
+              false,
+              ap (lexemes bytes) b.cut ∙ ap (λ z. lexeme bytes b.token ∷ lexemes bytes z) m.cut ∙ ap (λ z. lexeme bytes b.token ∷ lexeme bytes m.token ∷ lexemes bytes z) m.are,
+              (refl, ap (λ j. w.is_kind k.Word j && bytes_eq (codes "default") (token_bytes bytes b.token)) b.at.kind ∙ same-bytes (codes "default") (token_bytes bytes b.token) b.at.bytes, refl),
+              (refl, ap (λ j. w.is_kind k.Mark j && bytes_eq (codes ":") (token_bytes bytes m.token)) m.at.kind ∙ same-bytes (codes ":") (token_bytes bytes m.token) m.at.bytes, refl),
+              s.7 ∙ closed-tail s.1 s.2 s.3 s.5.2 (closed-colon s.1 s.3 x.1 s.6),
+            );
+            same = refl;
+          };
+    };
+  }
 
   pub prints_ident : Prints ident ident_tokens unplaced.ident
   prints_ident = prints_act ident_of (one name) _ _ _ _ (λ t. refl) (λ t. refl) prints_name

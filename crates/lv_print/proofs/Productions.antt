@@ -1,44 +1,31 @@
 -- Each production of the grammar prints: what is written of its trees spells them again, from what is so of its leaves and rules.
-use Rattle.std.proofs.Common.{◌≡◌, ℕ, ◌<◌, ◌≤◌, Bool, true, false, ◌&&◌, if◌then◌else◌, List, [], ◌∷◌, ◌++◌, map, Option, Some, None, refl, sym, ap, ◌∙◌, subst, append_assoc, append-nil, true≢false}
+use Rattle.std.proofs.Common.{◌≡◌, ℕ, Bool, true, false, ◌&&◌, if◌then◌else◌, List, [], ◌∷◌, ◌++◌, map, Option, Some, None, refl, sym, ap, ◌∙◌, subst, append_assoc, append-nil, true≢false}
 use Rattle.std.specs.Prelude.{option_map, is_some, codes}
 use Rattle.lv_ast.specs.Tokens.{kind_of, is_word, is_mark, is_digit}
-use Rattle.lv_ast.specs.Names.{is_keyword}
 use Rattle.lv_ast.specs.declared.tokens.Kind.TheVariants as k
-use Rattle.lv_ast.specs.declared.expr.Path.{Path}
-use Rattle.lv_ast.specs.declared.expr.Select.{Select}
-use Rattle.lv_ast.specs.declared.expr.Select.TheVariants as s
 use Rattle.lv_ast.specs.declared.expr.Expr.{Expr}
 use Rattle.lv_ast.specs.declared.stmt.Ident.{Ident}
 use Rattle.lv_ast.specs.declared.stmt.Target.{Target}
-use Rattle.lv_ast.specs.declared.stmt.Target.TheVariants as target
 use Rattle.lv_ast.specs.declared.stmt.Stmt.{Stmt}
-use Rattle.lv_ast.specs.declared.stmt.Arm.{Arm}
-use Rattle.lv_ast.specs.declared.item.Range.{Range}
-use Rattle.lv_ast.specs.declared.item.Setting.{Setting}
 use Rattle.lv_ast.specs.declared.item.Params.{Params}
 use Rattle.lv_ast.specs.declared.item.PortWord.{PortWord}
 use Rattle.lv_ast.specs.declared.item.Aport.{Aport}
 use Rattle.lv_ast.specs.declared.item.Ports.{Ports}
 use Rattle.lv_ast.specs.declared.item.Ports.TheVariants as ports
-use Rattle.lv_ast.specs.declared.item.NetName.{NetName}
 use Rattle.lv_ast.specs.declared.item.Watch.{Watch}
 use Rattle.lv_ast.specs.declared.item.Watch.TheVariants as watch
 use Rattle.lv_ast.specs.declared.item.Conn.{Conn}
-use Rattle.lv_ast.specs.declared.item.Inst.{Inst}
-use Rattle.lv_ast.specs.declared.item.Item.{Item}
-use Rattle.lv_ast.specs.declared.item.Module.{Module}
-use Rattle.lv_ast.specs.declared.item.Source.{Source}
 use Rattle.lv_parser.specs.declared.exprs.Span.{Span}
 use Rattle.lv_parser.specs.declared.exprs.Span.TheVariants as span
 use Rattle.lv_parser.specs.declared.statements.Head.{Head}
 use Rattle.lv_viable.specs.Grammar.{Gram, OneOf, left, right, one, leaf, call, act, both, either, perhaps, many, until}
-use Rattle.lv_viable.specs.Spelling.{last_open, Leaves, Calls, Spells}
-use Rattle.lv_parser.specs.Lexemes.{Lexeme, lexeme, lexemes}
+use Rattle.lv_viable.specs.Spelling.{Leaves, Calls, Spells}
+use Rattle.lv_parser.specs.Lexemes.{Lexeme}
 use Rattle.lv_parser.specs.Shapes.{Placed, base}
 use Rattle.lv_parser.specs.Shapes as shapes
 use Rattle.lv_parser.specs.Rules as rules
 use Rattle.lv_print.specs.Written.{Written, mark, word, name, commas, joined, others}
-use Rattle.lv_print.specs.Expressions.{parens, brackets, braces, path_tokens, expr_tokens, select_tokens}
+use Rattle.lv_print.specs.Expressions.{parens, path_tokens, expr_tokens, select_tokens}
 use Rattle.lv_print.specs.Sources as tokens
 use Rattle.lv_print.specs.Unplaced as bare
 use Rattle.lv_print.specs.UnplacedSources as bare_source
@@ -46,71 +33,8 @@ use Rattle.lv_print.proofs.Papers.{others-none, others-more, joined-none, joined
 use Rattle.lv_print.proofs.SourceRules as written
 use Rattle.lv_print.proofs.UnplacedRules.{unplaced-Bit, unplaced-Part, unplaced-Up, unplaced-Down}
 use Rattle.lv_print.proofs.UnplacedSourceRules as unplaced
-use Rattle.lv_print.proofs.Tokenized.{IsWhole, AreWhole, Are}
-use Rattle.lv_print.proofs.Spelled.{whole_mark, Behind, behind_of}
-use Rattle.lv_print.proofs.Prints.{AreGood, plain, on_left_or_right, each_side, Prints, IsPrinted, Again, prints_word, prints_mark, prints_none, prints_act, prints_where, prints_both, prints_either, prints_perhaps, prints_many, prints_until, prints_tail, prints_list, prints_list_as, prints_default, prints_ident}
-
--- what isn't placed
-abbrev pub placed_expr : Placed Expr → Placed Expr
-placed_expr p = record { tree = bare.expr p.tree; place = 0 }
-
-abbrev pub placed_target : Placed Target → Placed Target
-placed_target p = record { tree = bare_source.target p.tree; place = 0 }
-
-abbrev pub expr_printed : Placed Expr → List Written
-expr_printed p = expr_tokens p.tree
-
-abbrev pub target_printed : Placed Target → List Written
-target_printed p = tokens.target_tokens p.tree
-
--- ---- trees that have tokens of their own only inside of others
-
-abbrev span_end : Span → List Written
-span_end span.Bit = mark (codes "]") ∷ []
-span_end (span.Part y) = mark (codes ":") ∷ (expr_tokens y ++ (mark (codes "]") ∷ []))
-span_end (span.Up y) = mark (codes "+:") ∷ (expr_tokens y ++ (mark (codes "]") ∷ []))
-span_end (span.Down y) = mark (codes "-:") ∷ (expr_tokens y ++ (mark (codes "]") ∷ []))
-
-abbrev bare_span : Span → Span
-bare_span span.Bit = span.Bit
-bare_span (span.Part y) = span.Part (bare.expr y)
-bare_span (span.Up y) = span.Up (bare.expr y)
-bare_span (span.Down y) = span.Down (bare.expr y)
-
-abbrev bound_tokens : List ℕ → Expr → List Written
-bound_tokens m y = mark m ∷ (expr_tokens y ++ (mark (codes "]") ∷ []))
-
-abbrev head_tokens : Head → List Written
-head_tokens h = tokens.loop_tokens h.index h.start h.test h.again h.next
-
-abbrev bare_head : Head → Head
-bare_head h = record { index = bare_source.ident h.index; start = bare.expr h.start; test = bare.expr h.test; again = bare_source.ident h.again; next = bare.expr h.next }
-
-abbrev inside_watch : Watch → List Written
-inside_watch watch.Star = []
-inside_watch watch.Closed = mark (codes "*") ∷ mark (codes ")") ∷ []
-inside_watch (watch.Posedge x) = word (codes "posedge") ∷ (tokens.ident_tokens x ++ (mark (codes ")") ∷ []))
-
-abbrev inside_ports : Ports → List Written
-inside_ports (ports.Names xs) = commas (map tokens.ident_tokens xs)
-inside_ports (ports.Declared list) = commas (map tokens.port_tokens list)
-inside_ports _ = []
-
-select-printed : (x : Expr) (e : Span) → select_tokens (rules.select_by x e) ≡ mark (codes "[") ∷ (expr_tokens x ++ span_end e)
-select-printed x span.Bit = tokens-Bit x
-select-printed x (span.Part y) = tokens-Part x y ∙ ap (λ z. mark (codes "[") ∷ z) (append_assoc (expr_tokens x) (mark (codes ":") ∷ expr_tokens y) (mark (codes "]") ∷ []))
-select-printed x (span.Up y) = tokens-Up x y ∙ ap (λ z. mark (codes "[") ∷ z) (append_assoc (expr_tokens x) (mark (codes "+:") ∷ expr_tokens y) (mark (codes "]") ∷ []))
-select-printed x (span.Down y) = tokens-Down x y ∙ ap (λ z. mark (codes "[") ∷ z) (append_assoc (expr_tokens x) (mark (codes "-:") ∷ expr_tokens y) (mark (codes "]") ∷ []))
-
-select-bare : (x : Expr) (e : Span) → bare.select (rules.select_by x e) ≡ rules.select_by (bare.expr x) (bare_span e)
-select-bare x span.Bit = unplaced-Bit x
-select-bare x (span.Part y) = unplaced-Part x y
-select-bare x (span.Up y) = unplaced-Up x y
-select-bare x (span.Down y) = unplaced-Down x y
-
-simple-path : (x : Ident) → path_tokens (rules.path_of x) ≡ name x.name ∷ []
-unfolding path_tokens joined
-simple-path x = refl
+use Rattle.lv_print.proofs.Prints.{plain, on_left_or_right, each_side, Prints, prints_word, prints_mark, prints_act, prints_where, prints_both, prints_either, prints_perhaps, prints_many, prints_until, prints_tail, prints_list, prints_list_as, prints_default, prints_ident}
+use Rattle.lv_print.proofs.Inside.{placed_expr, placed_target, expr_printed, target_printed, span_end, bare_span, bound_tokens, head_tokens, bare_head, inside_watch, inside_ports, select_printed, select_bare, simple_path}
 
 module _ (old : List ℕ) (L : Leaves base) (C : Calls base) (L' : List ℕ → Leaves base) (C' : List ℕ → Calls base) where
   abbrev P : {A : Type 0} → Gram base A → (A → List Written) → (A → A) → Type 0
@@ -232,10 +156,10 @@ module _ (old : List ℕ) (L : Leaves base) (C : Calls base) (L' : List ℕ → 
         (prints_either old L C L' C' _ _ _ _ _ _ ends-bracket (prints_either old L C L' C' _ _ _ _ _ _ (bound (codes ":") refl) (prints_either old L C L' C' _ _ _ _ _ _ (bound (codes "+:") refl) (bound (codes "-:") refl))))
 
     selected : P rules.selected select_tokens bare.select
-    selected = acted rules.select_of select_tokens bare.select (λ p. select-printed p.1.0 p.1.1) (λ p. select-bare p.1.0 p.1.1) (pair begins-bracket (pair value select-end))
+    selected = acted rules.select_of select_tokens bare.select (λ p. select_printed p.1.0 p.1.1) (λ p. select_bare p.1.0 p.1.1) (pair begins-bracket (pair value select-end))
 
     named : P rules.named (λ p. tokens.named_tokens p.0 p.1) (λ p. (bare.path p.0, map bare.select p.1))
-    named = acted rules.named_of (λ p. tokens.named_tokens p.0 p.1) (λ p. (bare.path p.0, map bare.select p.1)) (λ p. ap (λ z. z ++ joined (map select_tokens p.1)) (simple-path p.0)) (λ p. refl) (pair ident (any selected))
+    named = acted rules.named_of (λ p. tokens.named_tokens p.0 p.1) (λ p. (bare.path p.0, map bare.select p.1)) (λ p. ap (λ z. z ++ joined (map select_tokens p.1)) (simple_path p.0)) (λ p. refl) (pair ident (any selected))
 
     target-tree : P rules.target_tree tokens.target_tokens bare_source.target
     target-tree = acted rules.tree tokens.target_tokens bare_source.target (λ p. refl) (λ p. refl) parts.target
@@ -309,7 +233,7 @@ module _ (old : List ℕ) (L : Leaves base) (C : Calls base) (L' : List ℕ → 
     direction =
         or (acted rules.input_of direction_tokens (λ p. p) input-printed input-bare (pair (keyword (codes "input") refl) (some (keyword (codes "wire") refl))))
         (acted rules.output_of direction_tokens (λ p. p) output-printed output-bare
-          (pair (keyword (codes "output") refl) (some (prints_either old L C L' C' _ _ _ _ _ _ (keyword (codes "wire") refl) (keyword (codes "reg") refl)))))
+        (pair (keyword (codes "output") refl) (some (prints_either old L C L' C' _ _ _ _ _ _ (keyword (codes "wire") refl) (keyword (codes "reg") refl)))))
 
     abbrev port_header_tokens : rules.PortHeader → List Written
     port_header_tokens p = direction_tokens p.0 ++ tokens.header_tokens p.1.0 p.1.1
@@ -517,7 +441,7 @@ module _ (old : List ℕ) (L : Leaves base) (C : Calls base) (L' : List ℕ → 
     event =
         or (acted rules.star_event tokens.watch_tokens bare_source.watch (λ t. refl) (λ t. refl) star)
         (prints_where old L C L' C' rules.behind (both rules.opens rules.event_inside) (λ p. (mark (codes "(") ∷ []) ++ inside_watch p.1) (λ p. (plain p.0, bare_source.watch p.1)) tokens.watch_tokens bare_source.watch
-          behind-spelled (λ p. refl) (pair opens event-inside))
+        behind-spelled (λ p. refl) (pair opens event-inside))
 
     always : P rules.always tokens.item_tokens bare_source.item
     unfolding kind_of is_word is_mark is_digit tokens.item_tokens bare_source.item
@@ -680,9 +604,9 @@ module _ (old : List ℕ) (L : Leaves base) (C : Calls base) (L' : List ℕ → 
       groups-printed y a ys ((t, (Some g, z)) ∷ es) =
           ap (λ l. l ++ others (map qc (rules.groups f g (z ∷ []) es))) (of y (a ∷ ys)) ∙
           ap (λ l. (hc y ++ commas (map xc (a ∷ ys))) ++ l)
-            (others-of (rules.groups f g (z ∷ []) es) (groups-some g (z ∷ []) es) ∙
-             ap (λ l. mark (codes ",") ∷ l) (groups-printed g z [] es ∙ ap (λ l. (hc g ++ l) ++ joined (map entry_tokens es)) (one-group (xc z))) ∙
-             sym (joined-more (entry_tokens (t, (Some g, z))) (map entry_tokens es)))
+          (others-of (rules.groups f g (z ∷ []) es) (groups-some g (z ∷ []) es) ∙
+          ap (λ l. mark (codes ",") ∷ l) (groups-printed g z [] es ∙ ap (λ l. (hc g ++ l) ++ joined (map entry_tokens es)) (one-group (xc z))) ∙
+          sym (joined-more (entry_tokens (t, (Some g, z))) (map entry_tokens es)))
 
       groups-bare : (y : H) (ys : List X) (es : List Entry) → map qu (rules.groups f y ys es) ≡ rules.groups f (hu y) (map xu ys) (map bare_entry es)
       groups-bare y ys [] = ap (λ z. z ∷ []) (un y ys)
@@ -802,7 +726,7 @@ module _ (old : List ℕ) (L : Leaves base) (C : Calls base) (L' : List ℕ → 
     module-rule =
         acted rules.module_of tokens.module_tokens bare_source.module_tree
         (λ p. ap (λ z. word (codes "module") ∷ name p.1.0.name ∷ z)
-          (head-first (tokens.hash (map tokens.group_tokens p.1.1.0)) (tokens.ports_tokens p.1.1.1.0) (mark (codes ";") ∷ []) (joined (map tokens.item_tokens p.1.1.1.1.1) ++ (word (codes "endmodule") ∷ []))))
+        (head-first (tokens.hash (map tokens.group_tokens p.1.1.0)) (tokens.ports_tokens p.1.1.1.0) (mark (codes ";") ∷ []) (joined (map tokens.item_tokens p.1.1.1.1.1) ++ (word (codes "endmodule") ∷ []))))
         (λ p. refl)
         (pair (keyword (codes "module") refl) (pair ident (pair module-params (pair module-ports (pair semicolon items-to-end)))))
 

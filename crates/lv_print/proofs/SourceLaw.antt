@@ -1,5 +1,5 @@
 -- The canonical text of a source reads back to it.
-use Rattle.std.proofs.Common.{◌≡◌, ℕ, zero, suc, ◌^◌, ◌<◌, ◌≤◌, Bool, true, false, List, [], ◌∷◌, map, length, refl, sym, ap, ◌∙◌, subst, arith, true≢false}
+use Rattle.std.proofs.Common.{◌≡◌, ℕ, zero, suc, ◌^◌, ◌<◌, ◌≤◌, Bool, true, false, List, [], ◌∷◌, length, refl, sym, ap, ◌∙◌, subst, arith}
 use Rattle.std.specs.Prelude.{◌++◌, Result, Ok, Err, IfOk}
 use Rattle.lv_bits.specs.declared.text.NoMemory.{NoMemory}
 use Rattle.lv_ast.specs.TokenLists.{is_token, are_tokens}
@@ -12,7 +12,7 @@ use Rattle.lv_exprs.specs.Forms as forms
 use Rattle.lv_exprs.specs.Trees as trees
 use Rattle.lv_exprs.proofs.FreeBits.{some_text}
 use Rattle.lv_viable.specs.Grammar.{Gram, leaf, call}
-use Rattle.lv_viable.specs.Spelling.{Leaves, Calls, Spells, Limit, any, allows, inside, Level, called}
+use Rattle.lv_viable.specs.Spelling.{Calls, Limit, any, inside, Level, called}
 use Rattle.lv_parser.specs.Lexemes.{Lexeme, lexeme, lexemes, place_of}
 use Rattle.lv_parser.specs.Shapes.{Placed, Rule, tree_of, count_of, base}
 use Rattle.lv_parser.specs.Shapes as shapes
@@ -22,19 +22,19 @@ use Rattle.lv_print.specs.declared.paper.Paper.{Paper}
 use Rattle.lv_print.specs.Paper.{with_tokens, end_gap, empty}
 use Rattle.lv_print.specs.Written.{Written, text_of}
 use Rattle.lv_print.specs.Expressions.{expr_tokens}
-use Rattle.lv_print.specs.Sources.{target_tokens, stmt_tokens, item_tokens, source_tokens}
-use Rattle.lv_print.specs.Unplaced as bare
+use Rattle.lv_print.specs.Sources.{stmt_tokens, item_tokens, source_tokens}
 use Rattle.lv_print.specs.UnplacedSources as bare_source
 use Rattle.lv_print.specs.Reads.{IsSpelledSource, ReadsBackSource, SourcesReadBack}
 use Rattle.lv_print.proofs.Finished.{finished}
-use Rattle.lv_print.proofs.Tokenized.{AreWhole, Are, plain_at, folded, are}
+use Rattle.lv_print.proofs.Tokenized.{Are, plain_at, folded, are}
 use Rattle.lv_print.proofs.TreeBack.{TreeAgain, TreeBack}
-use Rattle.lv_print.proofs.ExprBack.{Good, AllGood, back}
-use Rattle.lv_print.proofs.GoodTokens.{IsWholeToken, whole_token, good_symbols}
+use Rattle.lv_print.proofs.ExprBack.{AllGood, back}
+use Rattle.lv_print.proofs.GoodTokens.{whole_token, good_symbols}
 use Rattle.lv_print.proofs.ExprLaw.{ExprAgain, ExprBack, expr_back}
 use Rattle.lv_print.proofs.ExprLaw as law
-use Rattle.lv_print.proofs.Prints.{is_nil, IsGood, AreGood, Prints, IsPrinted, Again}
-use Rattle.lv_print.proofs.Productions.{placed_expr, placed_target, expr_printed, target_printed, Parts}
+use Rattle.lv_print.proofs.Prints.{is_nil, AreGood, Prints}
+use Rattle.lv_print.proofs.Inside.{placed_expr, placed_target, expr_printed, target_printed}
+use Rattle.lv_print.proofs.Productions.{Parts}
 use Rattle.lv_print.proofs.Productions as productions
 
 -- ---- expressions
@@ -64,39 +64,43 @@ module _ (old : List ℕ) (C : Calls base) (C' : List ℕ → Calls base) where
   P g c u = Prints old (IsExpression old) C IsExpression C' g c u
 
   value-leaf : P (leaf shapes.value) expr_printed placed_expr
-  value-leaf = record { prints = λ us o x good s.
-    let e : IsExpression old shapes.value us x = s.0 in
-    let b : TreeBack false (trees.tree old e.form) = (back old false e.form e.valid.0 (subst (AllGood old) (sym e.spells) (goods old us good))).as_tree e.valid.1 in
-    let h : TreeBack false x.tree = subst (TreeBack false) e.tree b in
-    record {
-      whole = h.whole;
-      empty = some-tokens us e.form e.spells ∙ sym (some-written false x.tree (expr_tokens x.tree) refl (definite-back false x.tree h));
-      again = λ bytes ts a.
-        let q : TreeAgain false bytes ts x.tree = h.again bytes ts a in
-        let tight : 13 ≤ rank q.form = q.tight in
+  value-leaf = record {
+    prints = λ us o x good s.
+        let e : IsExpression old shapes.value us x = s.0 in
+        let b : TreeBack false (trees.tree old e.form) = (back old false e.form e.valid.0 (subst (AllGood old) (sym e.spells) (goods old us good))).as_tree e.valid.1 in
+        let h : TreeBack false x.tree = subst (TreeBack false) e.tree b in
         record {
-          tree = record { tree = trees.tree bytes q.form; place = place_of (lexemes bytes ts) };
-          spelled = (record { form = q.form; valid = (q.valid, omega (arith, tight)); spells = sym q.spells ∙ symbols-same bytes ts; tree = refl; place = refl }, s.1);
-          same = λ i. record { tree = q.same i; place = 0 };
+          whole = h.whole;
+          empty = some-tokens us e.form e.spells ∙ sym (some-written false x.tree (expr_tokens x.tree) refl (definite-back false x.tree h));
+          again = λ bytes ts a.
+              let q : TreeAgain false bytes ts x.tree = h.again bytes ts a in
+              let tight : 13 ≤ rank q.form = q.tight in
+              record {
+                tree = record { tree = trees.tree bytes q.form; place = place_of (lexemes bytes ts) };
+                spelled = (record { form = q.form; valid = (q.valid, omega (arith, tight)); spells = sym q.spells ∙ symbols-same bytes ts; tree = refl; place = refl }, s.1);
+                same = λ i. record { tree = q.same i; place = 0 };
+              };
         };
-    } }
+  }
 
   label-leaf : P (leaf shapes.label) expr_printed placed_expr
-  label-leaf = record { prints = λ us o x good s.
-    let e : IsExpression old shapes.label us x = s.0 in
-    let b : ExprBack false (trees.tree old e.form) = expr_back old false e.form e.valid (subst (AllGood old) (sym e.spells) (goods old us good)) in
-    let h : ExprBack false x.tree = subst (ExprBack false) e.tree b in
-    record {
-      whole = h.whole;
-      empty = some-tokens us e.form e.spells ∙ sym (some-written false x.tree (expr_tokens x.tree) refl h);
-      again = λ bytes ts a.
-        let q : ExprAgain false bytes ts x.tree = h.again bytes ts a in
+  label-leaf = record {
+    prints = λ us o x good s.
+        let e : IsExpression old shapes.label us x = s.0 in
+        let b : ExprBack false (trees.tree old e.form) = expr_back old false e.form e.valid (subst (AllGood old) (sym e.spells) (goods old us good)) in
+        let h : ExprBack false x.tree = subst (ExprBack false) e.tree b in
         record {
-          tree = record { tree = trees.tree bytes q.form; place = place_of (lexemes bytes ts) };
-          spelled = (record { form = q.form; valid = q.valid; spells = sym q.spells ∙ symbols-same bytes ts; tree = refl; place = refl }, s.1);
-          same = λ i. record { tree = q.same i; place = 0 };
+          whole = h.whole;
+          empty = some-tokens us e.form e.spells ∙ sym (some-written false x.tree (expr_tokens x.tree) refl h);
+          again = λ bytes ts a.
+              let q : ExprAgain false bytes ts x.tree = h.again bytes ts a in
+              record {
+                tree = record { tree = trees.tree bytes q.form; place = place_of (lexemes bytes ts) };
+                spelled = (record { form = q.form; valid = q.valid; spells = sym q.spells ∙ symbols-same bytes ts; tree = refl; place = refl }, s.1);
+                same = λ i. record { tree = q.same i; place = 0 };
+              };
         };
-    } }
+  }
 
 -- ---- rules, as deep as they nest
 
@@ -111,13 +115,15 @@ module _ (old : List ℕ) where
   none-at d r c u = record { prints = λ us o x good s. absurd s }
 
   one-deeper : (n : ℕ) (d : ℕ → Limit) (r : Rule) (c : tree_of r → List Written) (u : tree_of r → tree_of r) → At n (inside (count_of r) d) (rules r) c u → At (suc n) d (call r) c u
-  one-deeper n d r c u h = record { prints = λ us o x good s.
-    let q = h.prints us o x good s.1 in
-    record {
-      whole = q.whole;
-      empty = q.empty;
-      again = λ bytes ts a. (let m = q.again bytes ts a in record { tree = m.tree; spelled = (s.0, m.spelled); same = m.same });
-    } }
+  one-deeper n d r c u h = record {
+    prints = λ us o x good s.
+        let q = h.prints us o x good s.1 in
+        record {
+          whole = q.whole;
+          empty = q.empty;
+          again = λ bytes ts a. (let m = q.again bytes ts a in record { tree = m.tree; spelled = (s.0, m.spelled); same = m.same });
+        };
+  }
 
   parts-at : (n : ℕ) (d : ℕ → Limit) → PartsAt n d
   parts-at zero d = record {
@@ -143,13 +149,15 @@ module _ (old : List ℕ) where
   Whole g c u = Prints old (IsExpression old) (called base (all old)) IsExpression (λ bytes. called base (all bytes)) g c u
 
   at-some-depth : (r : Rule) (c : tree_of r → List Written) (u : tree_of r → tree_of r) → ((n : ℕ) → At n (λ k. any) (call r) c u) → Whole (call r) c u
-  at-some-depth r c u h = record { prints = λ us o x good s.
-    let q = (h s.0).prints us o x good s.1 in
-    record {
-      whole = q.whole;
-      empty = q.empty;
-      again = λ bytes ts a. (let m = q.again bytes ts a in record { tree = m.tree; spelled = (s.0, m.spelled); same = m.same });
-    } }
+  at-some-depth r c u h = record {
+    prints = λ us o x good s.
+        let q = (h s.0).prints us o x good s.1 in
+        record {
+          whole = q.whole;
+          empty = q.empty;
+          again = λ bytes ts a. (let m = q.again bytes ts a in record { tree = m.tree; spelled = (s.0, m.spelled); same = m.same });
+        };
+  }
 
   whole-parts : Parts old (IsExpression old) (called base (all old)) IsExpression (λ bytes. called base (all bytes))
   whole-parts = record {

@@ -1,5 +1,5 @@
 -- The tokens of targets, statements and items, by the form of the tree.
-use Rattle.std.proofs.Common.{◌≡◌, ℕ, ◌<◌, Bool, true, false, if◌then◌else◌, List, [], ◌∷◌, ◌++◌, map, length, Option, Some, None, refl, sym, ap, ◌∙◌, arith}
+use Rattle.std.proofs.Common.{◌≡◌, ℕ, ◌<◌, Bool, List, [], ◌∷◌, ◌++◌, map, length, Option, Some, None, refl, sym, ap, ◌∙◌, arith}
 use Rattle.std.specs.Prelude.{codes}
 use Rattle.lv_ast.specs.declared.expr.Path.{Path}
 use Rattle.lv_ast.specs.declared.expr.Select.{Select}
@@ -25,7 +25,7 @@ use Rattle.lv_ast.specs.declared.item.Item.TheVariants as i
 use Rattle.lv_ast.proofs.StmtFolds as fold
 use Rattle.lv_print.specs.Written.{Written, mark, word, commas, joined}
 use Rattle.lv_print.specs.Expressions.{parens, braces, expr_tokens}
-use Rattle.lv_print.specs.Sources.{semicolon, end, ident_token, ident_tokens, perhaps, named_tokens, target_step, target_tokens, params_tokens, port_tokens, net_tokens, reg_tokens, loop_tokens, label_tokens, else_tokens, else_stmt, case_word, assigned_tokens, stmt_step, labels_tokens, arm_step, stmt_tokens, arm_tokens, continuous_tokens, watch_tokens, conn_tokens, inst_tokens, hash, index_word, params_word, declared_tokens, instance_tokens, block_tokens, item_fold, items_fold, item_tokens}
+use Rattle.lv_print.specs.Sources.{end, ident_tokens, perhaps, named_tokens, target_step, target_tokens, params_tokens, port_tokens, net_tokens, reg_tokens, loop_tokens, label_tokens, else_tokens, else_stmt, case_word, assigned_tokens, stmt_step, labels_tokens, arm_step, stmt_tokens, arm_tokens, continuous_tokens, watch_tokens, hash, index_word, params_word, declared_tokens, instance_tokens, block_tokens, item_fold, items_fold, item_tokens}
 use Rattle.lv_print.specs.declared.paper.Paper.{Paper}
 use Rattle.lv_print.specs.Paper.{put, with_tokens}
 use Rattle.lv_print.proofs.Papers.{writing, with-more, with-append}
@@ -176,7 +176,29 @@ generate_written x list xs p0 p1 p2 e f h i =
     ap (λ z. with_tokens z (joined (map item_tokens xs) ++ (word (codes "endgenerate") ∷ []))) h ∙ sym (with-more p0 (word (codes "generate")) _) ∙ ap (with_tokens p0) (sym (ap item_tokens e ∙ item-Generate xs))
 
 pub ruleset source_rules = (
-  writing, target-Name, target-Cat, stmt-Null, stmt-Block, stmt-If, stmt-If_else, stmt-Case, stmt-Loop, stmt-Now, stmt-Later, labels-none, labels-some,
-  item-Port, item-Wire, item-Reg, item-Index, item-Params, item-Assign, item-Always, item-Instance, item-Generate, item-Loop
+  writing,
+  target-Name,
+  target-Cat,
+  stmt-Null,
+  stmt-Block,
+  stmt-If,
+  stmt-If_else,
+  stmt-Case,
+  stmt-Loop,
+  stmt-Now,
+  stmt-Later,
+  labels-none,
+  labels-some,
+  item-Port,
+  item-Wire,
+  item-Reg,
+  item-Index,
+  item-Params,
+  item-Assign,
+  item-Always,
+  item-Instance,
+  item-Generate,
+  item-Loop,
 )
+
 pub ruleset module_rules = (writing)

@@ -1,9 +1,8 @@
 -- Tokens that stand where some were written, cut where those are.
-use Rattle.std.proofs.Common.{◌≡◌, ℕ, zero, suc, ◌+◌, ◌-◌, ◌^◌, ◌<◌, ◌≤◌, min, Bool, true, false, if◌then◌else◌, List, [], ◌∷◌, ◌++◌, map, length, take, drop, Some, None, refl, sym, ap, ◌∙◌, subst, arith, true≢false}
-use Rattle.std.specs.Prelude.{slice_range, codes}
+use Rattle.std.proofs.Common.{◌≡◌, ℕ, zero, suc, ◌+◌, ◌-◌, ◌^◌, ◌<◌, Bool, true, false, if◌then◌else◌, List, [], ◌∷◌, ◌++◌, take, drop, Some, refl, sym, ap, ◌∙◌, arith, true≢false}
+use Rattle.std.specs.Prelude.{slice_range}
 use Rattle.lv_ast.specs.Names.{is_simple}
 use Rattle.lv_ast.specs.Tokens.{kind_of}
-use Rattle.lv_ast.specs.declared.tokens.Kind.{Kind}
 use Rattle.lv_ast.specs.declared.tokens.Kind.TheVariants as k
 use Rattle.lv_ast.specs.declared.tokens.Token.{Token}
 use Rattle.lv_exprs.specs.declared.symbol.Symbol.{Symbol}
@@ -160,10 +159,10 @@ module _ (text : List ℕ) where
     name = record { place = t.start; start = behind t.start; end = t.end };
     symbol = at-symbol t (written k.Escaped (92 ∷ s)) h;
     bytes =
-      let less : t.start < t.end = slice_long text t.start t.end 92 s h.bytes in
-      let small : t.end < 2 ^ 64 = h.small in
-      let e : behind t.start ≡ t.start + 1 = omega (arith, less, small) in
-      ap (λ z. slice_range text z t.end) e ∙ slice_behind text t.start t.end 92 s h.bytes;
+        let less : t.start < t.end = slice_long text t.start t.end 92 s h.bytes in
+        let small : t.end < 2 ^ 64 = h.small in
+        let e : behind t.start ≡ t.start + 1 = omega (arith, less, small) in
+        ap (λ z. slice_range text z t.end) e ∙ slice_behind text t.start t.end 92 s h.bytes;
   }
 
   pub name_at : (t : Token) (s : List ℕ) → IsAt text t (name s) → IsNamed t s

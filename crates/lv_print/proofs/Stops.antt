@@ -1,11 +1,10 @@
 -- A token ends before a space, a newline, and, where it is a number, an apostrophe: no token goes on over them.
-use Rattle.std.proofs.Common.{◌≡◌, ℕ, zero, suc, ◌+◌, ◌-◌, ◌<◌, ◌≤◌, nat_lt, Bool, true, false, not, ◌&&◌, ◌||◌, if◌then◌else◌, ◌==◌, List, [], ◌∷◌, ◌++◌, ◌⊎◌, length, take, bytes_eq, Option, Some, None, refl, sym, ap, ◌∙◌, subst, inl, inr, arith, true≢false}
+use Rattle.std.proofs.Common.{◌≡◌, ℕ, nat_lt, Bool, true, false, not, ◌&&◌, ◌||◌, if◌then◌else◌, ◌==◌, List, [], ◌∷◌, ◌++◌, bytes_eq, Option, Some, None, refl, sym, ap, ◌∙◌, subst, true≢false}
 use Rattle.std.specs.List.{list_any, list_all}
 use Rattle.std.proofs.lemmas.Bool.{eqb-true}
 use Rattle.std.proofs.lemmas.Option.{none-some}
 use Rattle.std.proofs.lemmas.Slice.Eq.{bytes_eq-Decides}
-use Rattle.std.proofs.lemmas.List.Folds.{list_all-append}
-use Rattle.lv_ast.specs.Names.{is_between, is_letter, is_inner, is_keyword}
+use Rattle.lv_ast.specs.Names.{is_letter, is_inner, is_keyword}
 use Rattle.lv_ast.specs.Tokens.{is_blank, is_digit, is_number_byte, is_printed, is_free, is_sign, digit_value, base_of, is_base_digit, is_base_byte, is_word, without_sign, without_blanks, is_digits, is_base_and_digits, marks, is_mark, is_line_end, kind_if, after_backslash, kind_of}
 use Rattle.lv_ast.specs.TokenLists.{opening, Nothing}
 use Rattle.lv_ast.specs.declared.tokens.Kind.{Kind}
@@ -146,12 +145,12 @@ base-small c =
     elim ((c == 98) || (c == 66)) as (λ b. nat_lt 16 (if b then 2 else (if (c == 111) || (c == 79) then 8 else (if (c == 100) || (c == 68) then 10 else (if (c == 104) || (c == 72) then 16 else 0)))) ≡ false) [
       | true ↦ refl
       | false ↦ elim ((c == 111) || (c == 79)) as (λ b. nat_lt 16 (if b then 8 else (if (c == 100) || (c == 68) then 10 else (if (c == 104) || (c == 72) then 16 else 0))) ≡ false) [
+        | true ↦ refl
+        | false ↦ elim ((c == 100) || (c == 68)) as (λ b. nat_lt 16 (if b then 10 else (if (c == 104) || (c == 72) then 16 else 0)) ≡ false) [
           | true ↦ refl
-          | false ↦ elim ((c == 100) || (c == 68)) as (λ b. nat_lt 16 (if b then 10 else (if (c == 104) || (c == 72) then 16 else 0)) ≡ false) [
-              | true ↦ refl
-              | false ↦ elim ((c == 104) || (c == 72)) as (λ b. nat_lt 16 (if b then 16 else 0) ≡ false) [ true ↦ refl | false ↦ refl ]
-            ]
+          | false ↦ elim ((c == 104) || (c == 72)) as (λ b. nat_lt 16 (if b then 16 else 0) ≡ false) [ true ↦ refl | false ↦ refl ]
         ]
+      ]
     ]
 
 nothing-or : (a b : Bool) → a ≡ false → b ≡ false → (a || b) ≡ false
@@ -231,24 +230,24 @@ stops (x ∷ xs) u c j g o =
     elim (is_letter x) as (λ l. kind_by l (is_digit x) (x == 92) (x == 36) (x == 96) (x == 39) (x == 10) (x ∷ xs) xs ≡ Some j → kind_by l (is_digit x) (x == 92) (x == 36) (x == 96) (x == 39) (x == 10) (x ∷ v) v ≡ None) [
       | true ↦ λ h. if-none _ _ (word-stops (x ∷ xs) u c (inner-stop c g) (if-some _ _ j h))
       | false ↦ elim (is_digit x) as (λ l. kind_by false l (x == 92) (x == 36) (x == 96) (x == 39) (x == 10) (x ∷ xs) xs ≡ Some j → kind_by false l (x == 92) (x == 36) (x == 96) (x == 39) (x == 10) (x ∷ v) v ≡ None) [
-          | true ↦ λ h. if-none _ _ (all-stops is_number_byte xs u c (number-stop c g))
-          | false ↦ elim (x == 92) as (λ l. kind_by false false l (x == 36) (x == 96) (x == 39) (x == 10) (x ∷ xs) xs ≡ Some j → kind_by false false l (x == 36) (x == 96) (x == 39) (x == 10) (x ∷ v) v ≡ None) [
-              | true ↦ λ h. backslash-stops xs u c j g o h
-              | false ↦ elim (x == 36) as (λ l. kind_by false false false l (x == 96) (x == 39) (x == 10) (x ∷ xs) xs ≡ Some j → kind_by false false false l (x == 96) (x == 39) (x == 10) (x ∷ v) v ≡ None) [
-                  | true ↦ λ h. if-none _ _ (word-stops xs u c (inner-stop c g) (if-some _ _ j h))
-                  | false ↦ elim (x == 96) as (λ l. kind_by false false false false l (x == 39) (x == 10) (x ∷ xs) xs ≡ Some j → kind_by false false false false l (x == 39) (x == 10) (x ∷ v) v ≡ None) [
-                      | true ↦ λ h. if-none _ _ (word-stops xs u c (inner-stop c g) (if-some _ _ j h))
-                      | false ↦ elim (x == 39) as (λ l. kind_by false false false false false l (x == 10) (x ∷ xs) xs ≡ Some j → kind_by false false false false false l (x == 10) (x ∷ v) v ≡ None) [
-                          | true ↦ λ h. if-none _ _ (based-stops xs u c g (if-some _ _ j h))
-                          | false ↦ elim (x == 10) as (λ l. kind_by false false false false false false l (x ∷ xs) xs ≡ Some j → kind_by false false false false false false l (x ∷ v) v ≡ None) [
-                              | true ↦ λ h. absurd (line-not j _ h o)
-                              | false ↦ λ h. if-none _ _ (mark-stops (x ∷ xs) u c g)
-                            ]
-                        ]
-                    ]
+        | true ↦ λ h. if-none _ _ (all-stops is_number_byte xs u c (number-stop c g))
+        | false ↦ elim (x == 92) as (λ l. kind_by false false l (x == 36) (x == 96) (x == 39) (x == 10) (x ∷ xs) xs ≡ Some j → kind_by false false l (x == 36) (x == 96) (x == 39) (x == 10) (x ∷ v) v ≡ None) [
+          | true ↦ λ h. backslash-stops xs u c j g o h
+          | false ↦ elim (x == 36) as (λ l. kind_by false false false l (x == 96) (x == 39) (x == 10) (x ∷ xs) xs ≡ Some j → kind_by false false false l (x == 96) (x == 39) (x == 10) (x ∷ v) v ≡ None) [
+            | true ↦ λ h. if-none _ _ (word-stops xs u c (inner-stop c g) (if-some _ _ j h))
+            | false ↦ elim (x == 96) as (λ l. kind_by false false false false l (x == 39) (x == 10) (x ∷ xs) xs ≡ Some j → kind_by false false false false l (x == 39) (x == 10) (x ∷ v) v ≡ None) [
+              | true ↦ λ h. if-none _ _ (word-stops xs u c (inner-stop c g) (if-some _ _ j h))
+              | false ↦ elim (x == 39) as (λ l. kind_by false false false false false l (x == 10) (x ∷ xs) xs ≡ Some j → kind_by false false false false false l (x == 10) (x ∷ v) v ≡ None) [
+                | true ↦ λ h. if-none _ _ (based-stops xs u c g (if-some _ _ j h))
+                | false ↦ elim (x == 10) as (λ l. kind_by false false false false false false l (x ∷ xs) xs ≡ Some j → kind_by false false false false false false l (x ∷ v) v ≡ None) [
+                  | true ↦ λ h. absurd (line-not j _ h o)
+                  | false ↦ λ h. if-none _ _ (mark-stops (x ∷ xs) u c g)
                 ]
+              ]
             ]
+          ]
         ]
+      ]
     ]
 
 -- ---- a number ends before an apostrophe
@@ -278,24 +277,24 @@ number_stops (x ∷ xs) u =
     elim (is_letter x) as (λ l. kind_by l (is_digit x) (x == 92) (x == 36) (x == 96) (x == 39) (x == 10) (x ∷ xs) xs ≡ Some k.Number → kind_by l (is_digit x) (x == 92) (x == 36) (x == 96) (x == 39) (x == 10) (x ∷ v) v ≡ None) [
       | true ↦ λ h. absurd (not-number_word _ _ h)
       | false ↦ elim (is_digit x) as (λ l. kind_by false l (x == 92) (x == 36) (x == 96) (x == 39) (x == 10) (x ∷ xs) xs ≡ Some k.Number → kind_by false l (x == 92) (x == 36) (x == 96) (x == 39) (x == 10) (x ∷ v) v ≡ None) [
-          | true ↦ λ h. if-none _ _ (all-stops is_number_byte xs u 39 apostrophe-stop)
-          | false ↦ elim (x == 92) as (λ l. kind_by false false l (x == 36) (x == 96) (x == 39) (x == 10) (x ∷ xs) xs ≡ Some k.Number → kind_by false false l (x == 36) (x == 96) (x == 39) (x == 10) (x ∷ v) v ≡ None) [
-              | true ↦ λ h. absurd (not-number_behind xs h)
-              | false ↦ elim (x == 36) as (λ l. kind_by false false false l (x == 96) (x == 39) (x == 10) (x ∷ xs) xs ≡ Some k.Number → kind_by false false false l (x == 96) (x == 39) (x == 10) (x ∷ v) v ≡ None) [
-                  | true ↦ λ h. absurd (not-number _ k.System refl h)
-                  | false ↦ elim (x == 96) as (λ l. kind_by false false false false l (x == 39) (x == 10) (x ∷ xs) xs ≡ Some k.Number → kind_by false false false false l (x == 39) (x == 10) (x ∷ v) v ≡ None) [
-                      | true ↦ λ h. absurd (not-number _ k.Tick refl h)
-                      | false ↦ elim (x == 39) as (λ l. kind_by false false false false false l (x == 10) (x ∷ xs) xs ≡ Some k.Number → kind_by false false false false false l (x == 10) (x ∷ v) v ≡ None) [
-                          | true ↦ λ h. absurd (not-number _ k.Based refl h)
-                          | false ↦ elim (x == 10) as (λ l. kind_by false false false false false false l (x ∷ xs) xs ≡ Some k.Number → kind_by false false false false false false l (x ∷ v) v ≡ None) [
-                              | true ↦ λ h. absurd (not-number _ k.Line refl h)
-                              | false ↦ λ h. absurd (not-number _ k.Mark refl h)
-                            ]
-                        ]
-                    ]
+        | true ↦ λ h. if-none _ _ (all-stops is_number_byte xs u 39 apostrophe-stop)
+        | false ↦ elim (x == 92) as (λ l. kind_by false false l (x == 36) (x == 96) (x == 39) (x == 10) (x ∷ xs) xs ≡ Some k.Number → kind_by false false l (x == 36) (x == 96) (x == 39) (x == 10) (x ∷ v) v ≡ None) [
+          | true ↦ λ h. absurd (not-number_behind xs h)
+          | false ↦ elim (x == 36) as (λ l. kind_by false false false l (x == 96) (x == 39) (x == 10) (x ∷ xs) xs ≡ Some k.Number → kind_by false false false l (x == 96) (x == 39) (x == 10) (x ∷ v) v ≡ None) [
+            | true ↦ λ h. absurd (not-number _ k.System refl h)
+            | false ↦ elim (x == 96) as (λ l. kind_by false false false false l (x == 39) (x == 10) (x ∷ xs) xs ≡ Some k.Number → kind_by false false false false l (x == 39) (x == 10) (x ∷ v) v ≡ None) [
+              | true ↦ λ h. absurd (not-number _ k.Tick refl h)
+              | false ↦ elim (x == 39) as (λ l. kind_by false false false false false l (x == 10) (x ∷ xs) xs ≡ Some k.Number → kind_by false false false false false l (x == 10) (x ∷ v) v ≡ None) [
+                | true ↦ λ h. absurd (not-number _ k.Based refl h)
+                | false ↦ elim (x == 10) as (λ l. kind_by false false false false false false l (x ∷ xs) xs ≡ Some k.Number → kind_by false false false false false false l (x ∷ v) v ≡ None) [
+                  | true ↦ λ h. absurd (not-number _ k.Line refl h)
+                  | false ↦ λ h. absurd (not-number _ k.Mark refl h)
                 ]
+              ]
             ]
+          ]
         ]
+      ]
     ]
 
 -- ---- no comment begins where a token does

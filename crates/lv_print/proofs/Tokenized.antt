@@ -1,5 +1,5 @@
 -- The tokens of a text that joins whole tokens are these, with ends of lines between them; the directives leave them.
-use Rattle.std.proofs.Common.{◌≡◌, ℕ, zero, suc, ◌+◌, ◌-◌, ◌^◌, ◌<◌, ◌≤◌, Bool, true, false, ◌&&◌, ◌||◌, if◌then◌else◌, ◌==◌, List, [], ◌∷◌, ◌++◌, length, take, drop, Option, Some, None, ◌⊎◌, inl, inr, refl, sym, ap, ◌∙◌, subst, arith, append_assoc, append-nil, length-append, true≢false}
+use Rattle.std.proofs.Common.{◌≡◌, ℕ, zero, suc, ◌+◌, ◌-◌, ◌^◌, ◌<◌, ◌≤◌, Bool, true, false, ◌&&◌, if◌then◌else◌, List, [], ◌∷◌, ◌++◌, length, take, drop, Some, None, ◌⊎◌, inl, inr, refl, sym, ap, ◌∙◌, subst, arith, append_assoc, append-nil, length-append, true≢false}
 use Rattle.std.specs.Prelude.{slice_range}
 use Rattle.std.proofs.Math.Seq.{drop-append_seam, take-append_seam}
 use Rattle.lv_ast.specs.Tokens.{kind_of, is_blank, is_mark, is_digit}
@@ -11,7 +11,7 @@ use Rattle.lv_ast.specs.declared.tokens.Kind.TheVariants as k
 use Rattle.lv_ast.specs.declared.tokens.Token.{Token}
 use Rattle.lv_print.specs.Written.{Written, is_kind, is_size, ends_line, between, ending, behind, text_of}
 use Rattle.lv_print.specs.Reads.{IsFoldedOf}
-use Rattle.lv_print.proofs.Stops.{is_ordinary, IsGapByte, space, newline, stops, number_stops, IsRest, at_end, at_gap, at_base, opens}
+use Rattle.lv_print.proofs.Stops.{is_ordinary, space, newline, stops, number_stops, IsRest, at_end, at_gap, at_base, opens}
 
 -- one whole token of its kind
 pub record IsWhole (w : Written) : Type 0 where
@@ -79,9 +79,9 @@ rest-between w v t h =
     elim (ends_line w) as (λ b. IsRest w.kind ((if b then 10 ∷ [] else (if is_size w v then [] else 32 ∷ [])) ++ (v.bytes ++ t))) [
       | true ↦ at_gap 10 (v.bytes ++ t) newline
       | false ↦ elim (is_size w v) as (λ b. is_size w v ≡ b → IsRest w.kind ((if b then [] else 32 ∷ []) ++ (v.bytes ++ t))) [
-          | true ↦ λ e. based-rest w v t h e
-          | false ↦ λ _. at_gap 32 (v.bytes ++ t) space
-        ] refl
+        | true ↦ λ e. based-rest w v t h e
+        | false ↦ λ _. at_gap 32 (v.bytes ++ t) space
+      ] refl
     ]
 
 rest-of : (w : Written) (ws : List Written) → AreWhole ws → IsRest w.kind (behind w ws ++ text_of ws)
@@ -141,8 +141,8 @@ module _ (text : List ℕ) (p r : ℕ) (ts : List Token) where
   token-there j s u d o h e = record {
     rises = omega arith;
     first =
-      let l : length s ≡ (p + length s) - p = omega arith in
-      subst (λ z. IsFirstToken z j ((p + length s) - p)) (sym d) (subst (λ n. IsFirstToken (s ++ u) j n) l (first-token s u j o h e));
+        let l : length s ≡ (p + length s) - p = omega arith in
+        subst (λ z. IsFirstToken z j ((p + length s) - p)) (sym d) (subst (λ n. IsFirstToken (s ++ u) j n) l (first-token s u j o h e));
   }
 
   line-there : (t : List ℕ) → drop p text ≡ 10 ∷ t → IsTokenAt text (token k.Line p (p + 1))
@@ -194,10 +194,11 @@ stand front (w ∷ ws) h =
     let long : length (front ++ (b ++ g)) ≡ (length front + length b) + length g = (let l = length-append front (b ++ g) in let m = length-append b g in omega (arith, l, m)) in
     let inside : AreTokensFrom ((front ++ (b ++ g)) ++ t) (length (front ++ (b ++ g))) (tokens_at (length (front ++ (b ++ g))) ws) (length ((front ++ (b ++ g)) ++ t)) = stand (front ++ (b ++ g)) ws h.1 in
     let there : AreTokensFrom text (length (front ++ (b ++ g))) (tokens_at (length (front ++ (b ++ g))) ws) (length text) = subst (λ z. AreTokensFrom z (length (front ++ (b ++ g))) (tokens_at (length (front ++ (b ++ g))) ws) (length z)) whole inside in
-    let rest : AreTokensFrom text ((length front + length b) + length g) (tokens_at ((length front + length b) + length g) ws) (length text) = subst (λ n. AreTokensFrom text n (tokens_at n ws) (length text)) long there in
-    (lists.none refl,
-     token-there text (length front) (length text) [] w.kind b (g ++ t) (drop-append_seam front (b ++ (g ++ t))) h.0.ordinary h.0.kind (rest-of w ws h.1),
-     behind-there text (length front + length b) (length text) w ws _ t (drop-more front b (g ++ t)) rest)
+    let rest : AreTokensFrom text ((length front + length b) + length g) (tokens_at ((length front + length b) + length g) ws) (length text) = subst (λ n. AreTokensFrom text n (tokens_at n ws) (length text)) long there in (
+      lists.none refl,
+      token-there text (length front) (length text) [] w.kind b (g ++ t) (drop-append_seam front (b ++ (g ++ t))) h.0.ordinary h.0.kind (rest-of w ws h.1),
+      behind-there text (length front + length b) (length text) w ws _ t (drop-more front b (g ++ t)) rest,
+    )
 
 -- ---- directives leave them
 
@@ -274,9 +275,13 @@ are-at front (w ∷ ws) s =
     let all : length text ≡ (length front + length b) + length (g ++ t) = (let l = length-append front (b ++ (g ++ t)) in let m = length-append b (g ++ t) in omega (arith, l, m)) in
     let inside : Are ((front ++ (b ++ g)) ++ t) (plain_at (length (front ++ (b ++ g))) ws) ws = are-at (front ++ (b ++ g)) ws (subst (λ z. length z < 2 ^ 64) (sym whole) s) in
     let there : Are text (plain_at (length (front ++ (b ++ g))) ws) ws = subst (λ z. Are z (plain_at (length (front ++ (b ++ g))) ws) ws) whole inside in
-    let rest : Are text (plain_at ((length front + length b) + length g) ws) ws = subst (λ n. Are text (plain_at n ws) ws) long there in
-    (token w.kind (length front) (length front + length b), plain_at ((length front + length b) + length g) ws, refl,
-     record { kind = refl; bytes = slice-there front b (g ++ t); rises = omega arith; small = omega (arith, s, all) }, rest)
+    let rest : Are text (plain_at ((length front + length b) + length g) ws) ws = subst (λ n. Are text (plain_at n ws) ws) long there in (
+      token w.kind (length front) (length front + length b),
+      plain_at ((length front + length b) + length g) ws,
+      refl,
+      record { kind = refl; bytes = slice-there front b (g ++ t); rises = omega arith; small = omega (arith, s, all) },
+      rest,
+    )
 
 pub are : (ws : List Written) → length (text_of ws) < 2 ^ 64 → Are (text_of ws) (plain_at 0 ws) ws
 are ws s = are-at [] ws s

@@ -1,28 +1,24 @@
 -- The tokens of a tree are whole, and where they stand in a text they spell a tree that is the same but for places: from its parts.
-use Rattle.std.proofs.Common.{◌≡◌, ℕ, ◌+◌, ◌^◌, ◌<◌, ◌≤◌, nat_lt, Bool, true, false, ◌&&◌, if◌then◌else◌, List, [], ◌∷◌, ◌++◌, map, Option, Some, None, refl, sym, ap, ◌∙◌, subst, arith, append_assoc, append-nil, true≢false}
+use Rattle.std.proofs.Common.{◌≡◌, ℕ, ◌≤◌, Bool, true, false, List, [], ◌∷◌, ◌++◌, map, Option, Some, None, refl, sym, ap, ◌∙◌, subst, arith, append_assoc, append-nil, true≢false}
 use Rattle.std.specs.Prelude.{codes}
 use Rattle.lv_bits.specs.declared.op.Op.{Op}
-use Rattle.lv_bits.specs.declared.op.Op.TheVariants as o
 use Rattle.lv_ast.specs.Tokens.{kind_of, is_word, is_mark, is_digit}
-use Rattle.lv_ast.specs.declared.tokens.Kind.TheVariants as k
 use Rattle.lv_ast.specs.declared.tokens.Token.{Token}
-use Rattle.lv_ast.specs.declared.expr.Literal.{Literal}
 use Rattle.lv_ast.specs.declared.expr.Expr.{Expr}
 use Rattle.lv_ast.specs.declared.expr.Expr.TheVariants as e
 use Rattle.lv_exprs.specs.declared.symbol.Sign.{Sign}
-use Rattle.lv_exprs.specs.declared.symbol.Sign.TheVariants as g
 use Rattle.lv_exprs.specs.declared.symbol.Divider.TheVariants as d
 use Rattle.lv_exprs.specs.declared.symbol.Symbol.{Symbol}
 use Rattle.lv_exprs.specs.declared.symbol.Symbol.TheVariants as t
 use Rattle.lv_exprs.specs.Levels.{level, leads}
 use Rattle.lv_exprs.specs.Symbols.{symbols, mark_symbol, kind_symbol}
 use Rattle.lv_exprs.specs.Forms.{Form, plain, based, sized, name, dot, bit, part, prefix, binary, choice, paren, cast, pair, brace, repeat, text, rank, Valid, is_plain}
-use Rattle.lv_exprs.specs.Trees.{made, trees, tree, first, number_in, unary, infix_tree}
+use Rattle.lv_exprs.specs.Trees.{trees, tree, number_in, unary, infix_tree}
 use Rattle.lv_print.specs.Written.{Written, mark, others, commas}
-use Rattle.lv_print.specs.Expressions.{parens, braces, between_tokens, choice_tokens, cast_word, op_bytes, expr_tokens}
+use Rattle.lv_print.specs.Expressions.{parens, braces, between_tokens, cast_word, op_bytes, expr_tokens}
 use Rattle.lv_print.specs.Unplaced as unplaced
-use Rattle.lv_print.proofs.UnplacedRules.{unplaced-Un, unplaced-Bin, unplaced-Div, unplaced-Rem, unplaced-Cond, unplaced-Cat, unplaced-Rep, unplaced-Cast}
-use Rattle.lv_print.proofs.Papers.{tokens-Un, tokens-Bin, tokens-Div, tokens-Rem, tokens-Cond, tokens-Cat, tokens-Rep, tokens-Cast, others-more, others-none}
+use Rattle.lv_print.proofs.UnplacedRules.{unplaced-Un, unplaced-Cond, unplaced-Cat, unplaced-Rep, unplaced-Cast}
+use Rattle.lv_print.proofs.Papers.{tokens-Un, tokens-Cond, tokens-Cat, tokens-Rep, tokens-Cast, others-more, others-none}
 use Rattle.lv_print.proofs.Tokenized.{IsWhole, AreWhole, Are}
 use Rattle.lv_print.proofs.Spelled.{whole_mark, whole_append, Enclosed, enclosed, Middle, middle, Behind, behind_of, at_mark, at_written, spells_cons}
 
@@ -113,13 +109,13 @@ module _ (p : Bool) where
   list_of_one x h = record {
     whole = subst AreWhole (sym (one-commas (expr_tokens x))) h.whole;
     again = λ bytes ts a.
-      let q : TreeAgain bytes ts x = h.again bytes ts (subst (Are bytes ts) (one-commas (expr_tokens x)) a) in
-      record {
-        form = q.form;
-        spells = q.spells;
-        valid = q.valid;
-        same = (let tight : 13 ≤ rank q.form = q.tight in ap (map unplaced.expr) (one_tree bytes q.form (omega (arith, tight))) ∙ ap (λ z. z ∷ []) q.same);
-      };
+        let q : TreeAgain bytes ts x = h.again bytes ts (subst (Are bytes ts) (one-commas (expr_tokens x)) a) in
+        record {
+          form = q.form;
+          spells = q.spells;
+          valid = q.valid;
+          same = (let tight : 13 ≤ rank q.form = q.tight in ap (map unplaced.expr) (one_tree bytes q.form (omega (arith, tight))) ∙ ap (λ z. z ∷ []) q.same);
+        };
   }
 
   others-snoc : (xs : List (List Written)) (y : List Written) → others (xs ++ (y ∷ [])) ≡ others xs ++ (mark (codes ",") ∷ y)
@@ -141,18 +137,18 @@ module _ (p : Bool) where
   list_snoc x xs y h i = record {
     whole = subst AreWhole (sym (commas-snoc x xs y)) (middle_whole (codes ",") _ _ comma_whole h.whole i.whole);
     again = λ bytes ts a.
-      let m : Middle bytes ts (commas (map expr_tokens (x ∷ xs))) (expr_tokens y) t.Comma = middle bytes ts (codes ",") _ _ t.Comma refl (subst (Are bytes ts) (commas-snoc x xs y) a) in
-      let l : ListAgain bytes m.left (x ∷ xs) = h.again bytes m.left m.left_are in
-      let r : TreeAgain bytes m.right y = i.again bytes m.right m.right_are in
-      let tight : 13 ≤ rank r.form = r.tight in
-      record {
-        form = pair l.form r.form;
-        spells = m.spells (text l.form) (text r.form) l.spells r.spells;
-        valid = (l.valid, r.valid, omega (arith, tight));
-        same =
-          map-snoc unplaced.expr (trees bytes l.form) (tree bytes r.form) ∙ ap (λ z. z ++ (unplaced.expr (tree bytes r.form) ∷ [])) l.same ∙
-          ap (λ z. map unplaced.expr (x ∷ xs) ++ (z ∷ [])) r.same ∙ sym (map-snoc unplaced.expr (x ∷ xs) y);
-      };
+        let m : Middle bytes ts (commas (map expr_tokens (x ∷ xs))) (expr_tokens y) t.Comma = middle bytes ts (codes ",") _ _ t.Comma refl (subst (Are bytes ts) (commas-snoc x xs y) a) in
+        let l : ListAgain bytes m.left (x ∷ xs) = h.again bytes m.left m.left_are in
+        let r : TreeAgain bytes m.right y = i.again bytes m.right m.right_are in
+        let tight : 13 ≤ rank r.form = r.tight in
+        record {
+          form = pair l.form r.form;
+          spells = m.spells (text l.form) (text r.form) l.spells r.spells;
+          valid = (l.valid, r.valid, omega (arith, tight));
+          same =
+              map-snoc unplaced.expr (trees bytes l.form) (tree bytes r.form) ∙ ap (λ z. z ++ (unplaced.expr (tree bytes r.form) ∷ [])) l.same ∙
+              ap (λ z. map unplaced.expr (x ∷ xs) ++ (z ∷ [])) r.same ∙ sym (map-snoc unplaced.expr (x ∷ xs) y);
+        };
   }
 
   -- ---- operators
@@ -162,18 +158,18 @@ module _ (p : Bool) where
   unary_back op s f l u w x h = record {
     whole = subst AreWhole (sym (tokens-Un op x)) (parens_whole (mark (op_bytes op) ∷ expr_tokens x) (w, h.whole));
     again = λ bytes ts a.
-      let c : Enclosed bytes ts (mark (op_bytes op) ∷ expr_tokens x) t.LeftParen t.RightParen = enclosed bytes ts (codes "(") (codes ")") _ t.LeftParen t.RightParen refl refl (subst (Are bytes ts) (tokens-Un op x) a) in
-      let b : Behind bytes c.inside (mark (op_bytes op)) (expr_tokens x) = behind_of bytes c.inside _ _ c.are in
-      let q : TreeAgain bytes b.rest x = h.again bytes b.rest b.are in
-      let tight : 13 ≤ rank q.form = q.tight in
-      record {
-        form = paren (prefix s q.form);
-        spells = c.spells (t.Sign s ∷ text q.form) (spells_cons bytes b.token c.inside b.rest (t.Sign s) (text q.form) b.cut (at_mark bytes b.token (op_bytes op) (t.Sign s) f b.at) q.spells);
-        valid = ((q.valid, omega (arith, tight), l), omega arith);
-        tight = omega arith;
-        same = ap unplaced.expr (u (tree bytes q.form)) ∙ unplaced-Un op (tree bytes q.form) ∙ ap (e.Un op) q.same ∙ sym (unplaced-Un op x);
-        plain = never (e.Un op x) (paren (prefix s q.form)) refl;
-      };
+        let c : Enclosed bytes ts (mark (op_bytes op) ∷ expr_tokens x) t.LeftParen t.RightParen = enclosed bytes ts (codes "(") (codes ")") _ t.LeftParen t.RightParen refl refl (subst (Are bytes ts) (tokens-Un op x) a) in
+        let b : Behind bytes c.inside (mark (op_bytes op)) (expr_tokens x) = behind_of bytes c.inside _ _ c.are in
+        let q : TreeAgain bytes b.rest x = h.again bytes b.rest b.are in
+        let tight : 13 ≤ rank q.form = q.tight in
+        record {
+          form = paren (prefix s q.form);
+          spells = c.spells (t.Sign s ∷ text q.form) (spells_cons bytes b.token c.inside b.rest (t.Sign s) (text q.form) b.cut (at_mark bytes b.token (op_bytes op) (t.Sign s) f b.at) q.spells);
+          valid = ((q.valid, omega (arith, tight), l), omega arith);
+          tight = omega arith;
+          same = ap unplaced.expr (u (tree bytes q.form)) ∙ unplaced-Un op (tree bytes q.form) ∙ ap (e.Un op) q.same ∙ sym (unplaced-Un op x);
+          plain = never (e.Un op x) (paren (prefix s q.form)) refl;
+        };
   }
 
   pub infix_back : (m : List ℕ) (s : Sign) (build : Expr → Expr → Expr) → mark_symbol m ≡ t.Sign s → 2 ≤ level s → level s ≤ 11 → IsWhole (mark m) →
@@ -183,46 +179,46 @@ module _ (p : Bool) where
   infix_back m s build f low high w tokens built un np x y h i = record {
     whole = subst AreWhole (sym (tokens x y)) (parens_whole _ (middle_whole m _ _ w h.whole i.whole));
     again = λ bytes ts a.
-      let c : Enclosed bytes ts (expr_tokens x ++ (mark m ∷ expr_tokens y)) t.LeftParen t.RightParen = enclosed bytes ts (codes "(") (codes ")") _ t.LeftParen t.RightParen refl refl (subst (Are bytes ts) (tokens x y) a) in
-      let b : Middle bytes c.inside (expr_tokens x) (expr_tokens y) (t.Sign s) = middle bytes c.inside m _ _ (t.Sign s) f c.are in
-      let q : TreeAgain bytes b.left x = h.again bytes b.left b.left_are in
-      let r : TreeAgain bytes b.right y = i.again bytes b.right b.right_are in
-      let qt : 13 ≤ rank q.form = q.tight in
-      let rt : 13 ≤ rank r.form = r.tight in
-      record {
-        form = paren (binary s q.form r.form);
-        spells = c.spells (text q.form ++ (t.Sign s ∷ text r.form)) (b.spells (text q.form) (text r.form) q.spells r.spells);
-        valid = ((q.valid, r.valid, omega (arith, qt, high), omega (arith, rt, high), low), omega (arith, low));
-        tight = omega arith;
-        same = ap unplaced.expr (built (tree bytes q.form) (tree bytes r.form)) ∙ un _ _ ∙ ap (λ z. build z (unplaced.expr (tree bytes r.form))) q.same ∙ ap (build (unplaced.expr x)) r.same ∙ sym (un x y);
-        plain = never (build x y) (paren (binary s q.form r.form)) (np x y);
-      };
+        let c : Enclosed bytes ts (expr_tokens x ++ (mark m ∷ expr_tokens y)) t.LeftParen t.RightParen = enclosed bytes ts (codes "(") (codes ")") _ t.LeftParen t.RightParen refl refl (subst (Are bytes ts) (tokens x y) a) in
+        let b : Middle bytes c.inside (expr_tokens x) (expr_tokens y) (t.Sign s) = middle bytes c.inside m _ _ (t.Sign s) f c.are in
+        let q : TreeAgain bytes b.left x = h.again bytes b.left b.left_are in
+        let r : TreeAgain bytes b.right y = i.again bytes b.right b.right_are in
+        let qt : 13 ≤ rank q.form = q.tight in
+        let rt : 13 ≤ rank r.form = r.tight in
+        record {
+          form = paren (binary s q.form r.form);
+          spells = c.spells (text q.form ++ (t.Sign s ∷ text r.form)) (b.spells (text q.form) (text r.form) q.spells r.spells);
+          valid = ((q.valid, r.valid, omega (arith, qt, high), omega (arith, rt, high), low), omega (arith, low));
+          tight = omega arith;
+          same = ap unplaced.expr (built (tree bytes q.form) (tree bytes r.form)) ∙ un _ _ ∙ ap (λ z. build z (unplaced.expr (tree bytes r.form))) q.same ∙ ap (build (unplaced.expr x)) r.same ∙ sym (un x y);
+          plain = never (build x y) (paren (binary s q.form r.form)) (np x y);
+        };
   }
 
   pub choice_back : (c x y : Expr) → TreeBack c → TreeBack x → TreeBack y → TreeBack (e.Cond c x y)
   choice_back c x y h i j = record {
     whole = subst AreWhole (sym (tokens-Cond c x y)) (parens_whole _ (middle_whole (codes "?") _ _ marks-whole.8 h.whole (middle_whole (codes ":") _ _ marks-whole.7 i.whole j.whole)));
     again = λ bytes ts a.
-      let n : Enclosed bytes ts (expr_tokens c ++ (mark (codes "?") ∷ (expr_tokens x ++ (mark (codes ":") ∷ expr_tokens y)))) t.LeftParen t.RightParen =
+        let n : Enclosed bytes ts (expr_tokens c ++ (mark (codes "?") ∷ (expr_tokens x ++ (mark (codes ":") ∷ expr_tokens y)))) t.LeftParen t.RightParen =
         enclosed bytes ts (codes "(") (codes ")") _ t.LeftParen t.RightParen refl refl (subst (Are bytes ts) (tokens-Cond c x y) a) in
-      let m : Middle bytes n.inside (expr_tokens c) (expr_tokens x ++ (mark (codes ":") ∷ expr_tokens y)) t.Question = middle bytes n.inside (codes "?") _ _ t.Question refl n.are in
-      let l : Middle bytes m.right (expr_tokens x) (expr_tokens y) (t.Divider d.Colon) = middle bytes m.right (codes ":") _ _ (t.Divider d.Colon) refl m.right_are in
-      let q : TreeAgain bytes m.left c = h.again bytes m.left m.left_are in
-      let r : TreeAgain bytes l.left x = i.again bytes l.left l.left_are in
-      let s : TreeAgain bytes l.right y = j.again bytes l.right l.right_are in
-      let qt : 13 ≤ rank q.form = q.tight in
-      let rt : 13 ≤ rank r.form = r.tight in
-      let st : 13 ≤ rank s.form = s.tight in
-      record {
-        form = paren (choice q.form r.form s.form);
-        spells = n.spells _ (m.spells (text q.form) _ q.spells (l.spells (text r.form) (text s.form) r.spells s.spells));
-        valid = ((q.valid, r.valid, s.valid, omega (arith, qt), omega (arith, rt), omega (arith, st)), omega arith);
-        tight = omega arith;
-        same =
-          unplaced-Cond (tree bytes q.form) (tree bytes r.form) (tree bytes s.form) ∙ ap (λ z. e.Cond z (unplaced.expr (tree bytes r.form)) (unplaced.expr (tree bytes s.form))) q.same ∙
-          ap (λ z. e.Cond (unplaced.expr c) z (unplaced.expr (tree bytes s.form))) r.same ∙ ap (e.Cond (unplaced.expr c) (unplaced.expr x)) s.same ∙ sym (unplaced-Cond c x y);
-        plain = never (e.Cond c x y) (paren (choice q.form r.form s.form)) refl;
-      };
+        let m : Middle bytes n.inside (expr_tokens c) (expr_tokens x ++ (mark (codes ":") ∷ expr_tokens y)) t.Question = middle bytes n.inside (codes "?") _ _ t.Question refl n.are in
+        let l : Middle bytes m.right (expr_tokens x) (expr_tokens y) (t.Divider d.Colon) = middle bytes m.right (codes ":") _ _ (t.Divider d.Colon) refl m.right_are in
+        let q : TreeAgain bytes m.left c = h.again bytes m.left m.left_are in
+        let r : TreeAgain bytes l.left x = i.again bytes l.left l.left_are in
+        let s : TreeAgain bytes l.right y = j.again bytes l.right l.right_are in
+        let qt : 13 ≤ rank q.form = q.tight in
+        let rt : 13 ≤ rank r.form = r.tight in
+        let st : 13 ≤ rank s.form = s.tight in
+        record {
+          form = paren (choice q.form r.form s.form);
+          spells = n.spells _ (m.spells (text q.form) _ q.spells (l.spells (text r.form) (text s.form) r.spells s.spells));
+          valid = ((q.valid, r.valid, s.valid, omega (arith, qt), omega (arith, rt), omega (arith, st)), omega arith);
+          tight = omega arith;
+          same =
+              unplaced-Cond (tree bytes q.form) (tree bytes r.form) (tree bytes s.form) ∙ ap (λ z. e.Cond z (unplaced.expr (tree bytes r.form)) (unplaced.expr (tree bytes s.form))) q.same ∙
+              ap (λ z. e.Cond (unplaced.expr c) z (unplaced.expr (tree bytes s.form))) r.same ∙ ap (e.Cond (unplaced.expr c) (unplaced.expr x)) s.same ∙ sym (unplaced-Cond c x y);
+          plain = never (e.Cond c x y) (paren (choice q.form r.form s.form)) refl;
+        };
   }
 
   -- ---- concatenations and casts
@@ -231,16 +227,16 @@ module _ (p : Bool) where
   brace_back xs h = record {
     whole = subst AreWhole (sym (tokens-Cat xs)) (braces_whole _ h.whole);
     again = λ bytes ts a.
-      let c : Enclosed bytes ts (commas (map expr_tokens xs)) t.LeftBrace t.RightBrace = enclosed bytes ts (codes "{") (codes "}") _ t.LeftBrace t.RightBrace refl refl (subst (Are bytes ts) (tokens-Cat xs) a) in
-      let q : ListAgain bytes c.inside xs = h.again bytes c.inside c.are in
-      record {
-        form = brace q.form;
-        spells = c.spells (text q.form) q.spells;
-        valid = q.valid;
-        tight = omega arith;
-        same = unplaced-Cat (trees bytes q.form) ∙ ap e.Cat q.same ∙ sym (unplaced-Cat xs);
-        plain = never (e.Cat xs) (brace q.form) refl;
-      };
+        let c : Enclosed bytes ts (commas (map expr_tokens xs)) t.LeftBrace t.RightBrace = enclosed bytes ts (codes "{") (codes "}") _ t.LeftBrace t.RightBrace refl refl (subst (Are bytes ts) (tokens-Cat xs) a) in
+        let q : ListAgain bytes c.inside xs = h.again bytes c.inside c.are in
+        record {
+          form = brace q.form;
+          spells = c.spells (text q.form) q.spells;
+          valid = q.valid;
+          tight = omega arith;
+          same = unplaced-Cat (trees bytes q.form) ∙ ap e.Cat q.same ∙ sym (unplaced-Cat xs);
+          plain = never (e.Cat xs) (brace q.form) refl;
+        };
   }
 
   two-ends : (a b : List Symbol) (l r : Symbol) → l ∷ ((a ++ (l ∷ (b ++ (r ∷ [])))) ++ (r ∷ [])) ≡ l ∷ (a ++ (l ∷ (b ++ (r ∷ r ∷ []))))
@@ -250,24 +246,24 @@ module _ (p : Bool) where
   repeat_back n xs h i = record {
     whole = subst AreWhole (sym (tokens-Rep n xs)) (braces_whole _ (whole_append (expr_tokens n) _ h.whole (braces_whole _ i.whole)));
     again = λ bytes ts a.
-      let c : Enclosed bytes ts (expr_tokens n ++ braces (commas (map expr_tokens xs))) t.LeftBrace t.RightBrace =
+        let c : Enclosed bytes ts (expr_tokens n ++ braces (commas (map expr_tokens xs))) t.LeftBrace t.RightBrace =
         enclosed bytes ts (codes "{") (codes "}") _ t.LeftBrace t.RightBrace refl refl (subst (Are bytes ts) (tokens-Rep n xs) a) in
-      let m : Middle bytes c.inside (expr_tokens n) (commas (map expr_tokens xs) ++ (mark (codes "}") ∷ [])) t.LeftBrace = middle bytes c.inside (codes "{") _ _ t.LeftBrace refl c.are in
-      let l : Middle bytes m.right (commas (map expr_tokens xs)) [] t.RightBrace = middle bytes m.right (codes "}") _ [] t.RightBrace refl m.right_are in
-      let q : TreeAgain bytes m.left n = h.again bytes m.left m.left_are in
-      let r : ListAgain bytes l.left xs = i.again bytes l.left l.left_are in
-      let qt : 13 ≤ rank q.form = q.tight in
-      record {
-        form = repeat q.form r.form;
-        spells =
-          c.spells _ (m.spells (text q.form) _ q.spells (l.spells (text r.form) [] r.spells (ap (symbols bytes) l.right_are))) ∙
-          two-ends (text q.form) (text r.form) t.LeftBrace t.RightBrace;
-        valid = (q.valid, omega (arith, qt), r.valid);
-        tight = omega arith;
-        same =
-          unplaced-Rep (tree bytes q.form) (trees bytes r.form) ∙ ap (λ z. e.Rep z (map unplaced.expr (trees bytes r.form))) q.same ∙ ap (e.Rep (unplaced.expr n)) r.same ∙ sym (unplaced-Rep n xs);
-        plain = never (e.Rep n xs) (repeat q.form r.form) refl;
-      };
+        let m : Middle bytes c.inside (expr_tokens n) (commas (map expr_tokens xs) ++ (mark (codes "}") ∷ [])) t.LeftBrace = middle bytes c.inside (codes "{") _ _ t.LeftBrace refl c.are in
+        let l : Middle bytes m.right (commas (map expr_tokens xs)) [] t.RightBrace = middle bytes m.right (codes "}") _ [] t.RightBrace refl m.right_are in
+        let q : TreeAgain bytes m.left n = h.again bytes m.left m.left_are in
+        let r : ListAgain bytes l.left xs = i.again bytes l.left l.left_are in
+        let qt : 13 ≤ rank q.form = q.tight in
+        record {
+          form = repeat q.form r.form;
+          spells =
+              c.spells _ (m.spells (text q.form) _ q.spells (l.spells (text r.form) [] r.spells (ap (symbols bytes) l.right_are))) ∙
+              two-ends (text q.form) (text r.form) t.LeftBrace t.RightBrace;
+          valid = (q.valid, omega (arith, qt), r.valid);
+          tight = omega arith;
+          same =
+              unplaced-Rep (tree bytes q.form) (trees bytes r.form) ∙ ap (λ z. e.Rep z (map unplaced.expr (trees bytes r.form))) q.same ∙ ap (e.Rep (unplaced.expr n)) r.same ∙ sym (unplaced-Rep n xs);
+          plain = never (e.Rep n xs) (repeat q.form r.form) refl;
+        };
   }
 
   cast-whole : (b : Bool) → IsWhole (cast_word b)
@@ -283,16 +279,16 @@ module _ (p : Bool) where
   cast_back b x h = record {
     whole = subst AreWhole (sym (tokens-Cast b x)) (cast-whole b, parens_whole _ h.whole);
     again = λ bytes ts a.
-      let w : Behind bytes ts (cast_word b) (parens (expr_tokens x)) = behind_of bytes ts _ _ (subst (Are bytes ts) (tokens-Cast b x) a) in
-      let c : Enclosed bytes w.rest (expr_tokens x) t.LeftParen t.RightParen = enclosed bytes w.rest (codes "(") (codes ")") _ t.LeftParen t.RightParen refl refl w.are in
-      let q : TreeAgain bytes c.inside x = h.again bytes c.inside c.are in
-      let qt : 13 ≤ rank q.form = q.tight in
-      record {
-        form = cast b q.form;
-        spells = spells_cons bytes w.token ts w.rest (t.Cast b) _ w.cut (at_written bytes w.token (cast_word b) (t.Cast b) (cast-symbol b w.token.start w.token.end) w.at) (c.spells (text q.form) q.spells);
-        valid = (q.valid, omega (arith, qt));
-        tight = omega arith;
-        same = unplaced-Cast b (tree bytes q.form) ∙ ap (e.Cast b) q.same ∙ sym (unplaced-Cast b x);
-        plain = never (e.Cast b x) (cast b q.form) refl;
-      };
+        let w : Behind bytes ts (cast_word b) (parens (expr_tokens x)) = behind_of bytes ts _ _ (subst (Are bytes ts) (tokens-Cast b x) a) in
+        let c : Enclosed bytes w.rest (expr_tokens x) t.LeftParen t.RightParen = enclosed bytes w.rest (codes "(") (codes ")") _ t.LeftParen t.RightParen refl refl w.are in
+        let q : TreeAgain bytes c.inside x = h.again bytes c.inside c.are in
+        let qt : 13 ≤ rank q.form = q.tight in
+        record {
+          form = cast b q.form;
+          spells = spells_cons bytes w.token ts w.rest (t.Cast b) _ w.cut (at_written bytes w.token (cast_word b) (t.Cast b) (cast-symbol b w.token.start w.token.end) w.at) (c.spells (text q.form) q.spells);
+          valid = (q.valid, omega (arith, qt));
+          tight = omega arith;
+          same = unplaced-Cast b (tree bytes q.form) ∙ ap (e.Cast b) q.same ∙ sym (unplaced-Cast b x);
+          plain = never (e.Cast b x) (cast b q.form) refl;
+        };
   }

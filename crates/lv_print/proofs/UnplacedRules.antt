@@ -1,5 +1,5 @@
 -- Trees without places, by their form.
-use Rattle.std.proofs.Common.{◌≡◌, Bool, List, [], ◌∷◌, map}
+use Rattle.std.proofs.Common.{◌≡◌, Bool, List, map}
 use Rattle.lv_bits.specs.declared.op.Op.{Op}
 use Rattle.lv_ast.specs.declared.expr.Literal.{Literal}
 use Rattle.lv_ast.specs.declared.expr.Path.{Path}

@@ -1,6 +1,6 @@
 -- How a literal is written (IEEE 1364-2005, section 3.5): a plain one in decimal, else with its size, `s` where it is signed, and
 -- hexadecimal digits, or binary ones with `?` where it has free bits.
-use Rattle.std.specs.Prelude.{ℕ, zero, suc, ◌+◌, ◌-◌, ◌/◌, ◌%◌, ◌^◌, min, nat_lt, Bool, true, false, ◌&&◌, if◌then◌else◌, ◌==◌, List, [], ◌∷◌, ◌++◌, Option, Some, None, codes}
+use Rattle.std.specs.Prelude.{ℕ, zero, suc, ◌+◌, ◌-◌, ◌/◌, ◌%◌, ◌^◌, min, nat_lt, Bool, ◌&&◌, if◌then◌else◌, ◌==◌, List, [], ◌∷◌, ◌++◌, Option, Some, None, codes}
 use Rattle.lv_ast.specs.declared.expr.Literal.{Literal}
 use Rattle.lv_ast.specs.declared.tokens.Kind.TheVariants as k
 use Rattle.lv_print.specs.Written.{Written, written}

@@ -1,5 +1,4 @@
 -- Trees without their places: each place is 0. Two trees are the same but for places if these are equal.
-use Rattle.std.specs.Prelude.{List}
 use Rattle.lv_ast.specs.declared.expr.Literal.{Literal}
 use Rattle.lv_ast.specs.declared.expr.Path.{Path}
 use Rattle.lv_ast.specs.declared.expr.Select.{Select}

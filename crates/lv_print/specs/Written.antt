@@ -1,5 +1,5 @@
 -- What is written: tokens by their kind and bytes, and the text that joins them.
-use Rattle.std.specs.Prelude.{ℕ, Bool, ◌&&◌, ◌||◌, if◌then◌else◌, ◌==◌, List, [], ◌∷◌, ◌++◌, bytes_eq, codes, flat_map}
+use Rattle.std.specs.Prelude.{ℕ, Bool, ◌&&◌, ◌||◌, if◌then◌else◌, ◌==◌, List, [], ◌∷◌, ◌++◌, bytes_eq, codes}
 use Rattle.lv_ast.specs.Names.{is_simple}
 use Rattle.lv_ast.specs.TokenLists.{kind_number}
 use Rattle.lv_ast.specs.declared.tokens.Kind.{Kind}

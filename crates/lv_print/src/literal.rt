@@ -106,13 +106,7 @@ fn digits_width(size: Option<u128>) -> u32
 {
     match size {
         None => 128,
-        Some(size) => {
-            if size < 128 {
-                size as u32
-            } else {
-                128
-            }
-        }
+        Some(size) => { if size < 128 { size as u32 } else { 128 } }
     }
 }
 

@@ -80,7 +80,12 @@ pub fn loop_start(
 
 /// Writes the end of a loop's head.
 #[tactic(auto, using(crate::proofs::SourceRules::source_rules))]
-pub fn loop_next(paper: &mut Paper, alloc: Global, again: &Ident, next: &Expr) -> Result<(), NoMemory>
+pub fn loop_next(
+    paper: &mut Paper,
+    alloc: Global,
+    again: &Ident,
+    next: &Expr,
+) -> Result<(), NoMemory>
     ensures { OnOk result (paper.new ≡ with_tokens paper.old (sources.loop_next again.now next.now)) }
 {
     paper.name(&again.name)?;

@@ -119,10 +119,16 @@ const UNARY: [(Op, &[u8]); 6] = [
 fn prints_operators(rt: HostRuntime) -> Result<(), Fail> {
     let alloc = rt.alloc();
     for (op, text) in BINARY.iter() {
-        assert!(rt; matches!(shows(alloc, binary(alloc, *op), text), Ok(true)), "{op:?}");
+        assert!(rt;
+            matches!(shows(alloc, binary(alloc, *op), text), Ok(true)),
+            "{op:?}"
+        );
     }
     for (op, text) in UNARY.iter() {
-        assert!(rt; matches!(shows(alloc, unary(alloc, *op), text), Ok(true)), "{op:?}");
+        assert!(rt;
+            matches!(shows(alloc, unary(alloc, *op), text), Ok(true)),
+            "{op:?}"
+        );
     }
     Ok(())
 }
@@ -131,7 +137,13 @@ const LITERALS: [(Option<u128>, bool, u128, u128, &[u8]); 13] = [
     (None, false, 0, 0, b"'h0"),
     (None, true, 255, 0, b"'shff"),
     (Some(8), false, 10, 0, b"8'ha"),
-    (Some(128), true, u128::MAX, 0, b"128'shffffffffffffffffffffffffffffffff"),
+    (
+        Some(128),
+        true,
+        u128::MAX,
+        0,
+        b"128'shffffffffffffffffffffffffffffffff",
+    ),
     (Some(4), false, 8, 7, b"4'b1???"),
     (Some(4), false, 4, 3, b"4'b1??"),
     (Some(4), false, 0, 15, b"4'b?"),
@@ -148,7 +160,10 @@ fn prints_literals(rt: HostRuntime) -> Result<(), Fail> {
     let alloc = rt.alloc();
     for (size, signed, value, wild, text) in LITERALS.iter() {
         let tree = Ok(literal(*size, *signed, *value, *wild));
-        assert!(rt; matches!(shows(alloc, tree, text), Ok(true)), "{value} {wild}");
+        assert!(rt;
+            matches!(shows(alloc, tree, text), Ok(true)),
+            "{value} {wild}"
+        );
     }
     assert!(rt; matches!(shows(alloc, Ok(plain(1203)), b"1203"), Ok(true)));
     assert!(rt; matches!(shows(alloc, Ok(plain(0)), b"0"), Ok(true)));

@@ -1,4 +1,4 @@
-use Rattle.std.proofs.Common.{arith, refl}
+use Rattle.std.proofs.Common.{arith}
 use Rattle.lv_print.specs.Expressions.{expr_tokens, select_tokens}
 use Rattle.lv_print.proofs.Papers.{list_turn, list_end, joined_turn, joined_end}
 use Rattle.lv_print.proofs.expr.+printing.Goals as goal

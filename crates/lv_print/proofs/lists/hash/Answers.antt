@@ -15,4 +15,4 @@ returns g c =
     let rest : List Written = parens (commas (map g.T.Print.tokens c.args.items.now)) in
     ok-same _ _ _ _ c.in_parens.ensures
     (ap (λ q. with_tokens q rest) c.in_ok-mark.ensures ∙
-     sym (ap (with_tokens c.args.paper.now) (hash-some g.T.Print.tokens c.args.items.now (omega arith)) ∙ with-more c.args.paper.now (mark (codes "#")) rest))
+    sym (ap (with_tokens c.args.paper.now) (hash-some g.T.Print.tokens c.args.items.now (omega arith)) ∙ with-more c.args.paper.now (mark (codes "#")) rest))

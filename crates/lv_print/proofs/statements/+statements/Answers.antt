@@ -28,4 +28,4 @@ pub stmt-returns-in_ok-arms-in-Case : goal.stmt-returns-in_ok-arms-in-Case
 stmt-returns-in_ok-arms-in-Case t c =
     ok-same _ _ _ _ c.word-in-Case.ensures
     (case_written c.args.s.now c.in-Case.wild c.in-Case.x c.as_slice-in-Case.result.now c.in-Case.list c.args.paper.now _ _ _ c.in-Case.is c.as_slice-in-Case.ensures
-     c.in_ok-case_word-in-Case.ensures c.in_ok-condition-in-Case.ensures c.in_ok-arms-in-Case.ensures)
+    c.in_ok-case_word-in-Case.ensures c.in_ok-condition-in-Case.ensures c.in_ok-arms-in-Case.ensures)

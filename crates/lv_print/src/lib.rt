@@ -13,8 +13,6 @@ mod names;
 mod paper;
 mod print;
 mod statements;
-#[cfg(test)]
-mod tests;
 
 pub use laws::{exprs_read_back, sources_read_back};
 pub use print::{print_expr, print_source};

@@ -1,6 +1,7 @@
-use crate::print_expr;
+//! The canonical text of expressions.
 use lv_ast::{Expr, Literal, Path, PathStep, Select};
 use lv_bits::{NoMemory, Op, Text};
+use lv_print::print_expr;
 use sqlite_items::{Boxed, Items};
 use std::alloc::Global;
 use std::test::Fail;

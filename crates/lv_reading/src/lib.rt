@@ -1,15 +1,13 @@
-//! Tests of reading a text and of printing it: its tokens, its directives, its expressions and its grammar.
+//! Tests of reading a text: its tokens, its directives, its expressions and its grammar.
 #![tactic(auto)]
 
 #[cfg(test)]
-mod expressions;
+mod designs;
 #[cfg(test)]
-mod printing;
+mod expressions;
 #[cfg(test)]
 mod rows;
 #[cfg(test)]
 mod shapes;
 #[cfg(test)]
 mod tokens;
-#[cfg(test)]
-mod written;

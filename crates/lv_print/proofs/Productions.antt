@@ -5,6 +5,7 @@ use Rattle.lv_ast.specs.Tokens.{kind_of, is_word, is_mark, is_digit}
 use Rattle.lv_ast.specs.declared.tokens.Kind.TheVariants as k
 use Rattle.lv_ast.specs.declared.expr.Expr.{Expr}
 use Rattle.lv_ast.specs.declared.stmt.Ident.{Ident}
+use Rattle.lv_ast.specs.declared.item.Item.{Item}
 use Rattle.lv_ast.specs.declared.stmt.Target.{Target}
 use Rattle.lv_ast.specs.declared.stmt.Stmt.{Stmt}
 use Rattle.lv_ast.specs.declared.item.Params.{Params}
@@ -540,12 +541,21 @@ module _ (old : List ℕ) (L : Leaves base) (C : Calls base) (L' : List ℕ → 
     unfolding kind_of is_word
     generate = acted rules.generate_item tokens.item_tokens bare_source.item (λ p. written.item-Generate p.1) (λ p. unplaced.item-Generate p.1) (pair (keyword (codes "generate") refl) (block-items (codes "endgenerate") refl))
 
-    generate-loop : P rules.generate_loop tokens.item_tokens bare_source.item
+    abbrev named_tokens : Ident × List Item → List Written
+    named_tokens b = (word (codes "begin") ∷ []) ++ ((mark (codes ":") ∷ []) ++ (tokens.ident_tokens b.0 ++ (joined (map tokens.item_tokens b.1) ++ (word (codes "end") ∷ []))))
+
+    abbrev bare_named : Ident × List Item → Ident × List Item
+    bare_named b = (bare_source.ident b.0, map bare_source.item b.1)
+
+    named-block : P rules.named_block named_tokens bare_named
     unfolding kind_of is_word
+    named-block = acted rules.named_block_of named_tokens bare_named (λ p. refl) (λ p. refl) (pair (keyword (codes "begin") refl) (pair colon (pair ident (block-items (codes "end") refl))))
+
+    generate-loop : P rules.generate_loop tokens.item_tokens bare_source.item
     generate-loop =
-        acted rules.loop_item tokens.item_tokens bare_source.item (λ p. written.item-Loop p.0.index p.0.start p.0.test p.0.again p.0.next p.1.1.1.0 p.1.1.1.1)
-        (λ p. unplaced.item-Loop p.0.index p.0.start p.0.test p.0.again p.0.next p.1.1.1.0 p.1.1.1.1)
-        (pair loop-head (pair (keyword (codes "begin") refl) (pair colon (pair ident (block-items (codes "end") refl)))))
+        acted rules.loop_item tokens.item_tokens bare_source.item (λ p. written.item-Loop p.0.index p.0.start p.0.test p.0.again p.0.next p.1.0 p.1.1)
+        (λ p. unplaced.item-Loop p.0.index p.0.start p.0.test p.0.again p.0.next p.1.0 p.1.1)
+        (pair loop-head named-block)
 
     pub block_item_rule : P rules.block_item_rule tokens.item_tokens bare_source.item
     unfolding kind_of is_word

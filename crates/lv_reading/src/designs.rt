@@ -1,4 +1,5 @@
 //! Whole designs: registers, one clock, counters, a memory, latches, a pipeline, a core of two stages.
+use crate::printing::printed;
 use crate::rows::{Outcome, reading};
 use std::test::Fail;
 
@@ -152,13 +153,16 @@ endmodule
 ];
 
 #[test]
-fn designs_are_read(rt: HostRuntime) -> Result<(), Fail> {
+fn designs_are_read_and_printed(rt: HostRuntime) -> Result<(), Fail> {
+    let alloc = rt.alloc();
     for text in DESIGNS.iter() {
-        assert_eq!(rt;
-            reading(&rt, rt.alloc(), text)?,
-            Outcome::Accepted,
-            "{text}"
-        );
+        assert_eq!(rt; reading(&rt, alloc, text)?, Outcome::Accepted, "{text}");
+        let once = printed(&rt, alloc, text)?;
+        let Ok(again) = str::from_utf8(once.bytes()) else {
+            return Err(Fail::from("no text"));
+        };
+        let twice = printed(&rt, alloc, again)?;
+        assert!(rt; once == twice, "{text}");
     }
     Ok(())
 }

@@ -1,4 +1,4 @@
-//! Tests of reading a text: its tokens, its directives, its expressions and its grammar.
+//! Tests of reading a text and of printing it: its tokens, its directives, its expressions and its grammar.
 #![tactic(auto)]
 
 #[cfg(test)]
@@ -6,8 +6,12 @@ mod designs;
 #[cfg(test)]
 mod expressions;
 #[cfg(test)]
+mod printing;
+#[cfg(test)]
 mod rows;
 #[cfg(test)]
 mod shapes;
 #[cfg(test)]
 mod tokens;
+#[cfg(test)]
+mod written;

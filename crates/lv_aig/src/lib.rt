@@ -3,8 +3,6 @@
 
 mod edge;
 mod graph;
-#[cfg(test)]
-mod tests;
 
 pub use edge::{Edge, Gate};
 pub use graph::And;

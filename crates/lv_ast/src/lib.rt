@@ -5,8 +5,6 @@
 mod expr;
 mod item;
 mod stmt;
-#[cfg(test)]
-mod tests;
 mod tokens;
 
 pub use expr::{Expr, Literal, Path, PathStep, Select};

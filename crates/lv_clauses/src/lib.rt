@@ -6,8 +6,6 @@ mod laws;
 mod line;
 mod lit;
 mod set;
-#[cfg(test)]
-mod tests;
 
 pub use clause::{Added, Clause, are_within, has_lit};
 pub use laws::{

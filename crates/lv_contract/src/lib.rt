@@ -14,8 +14,6 @@ mod named;
 mod need;
 mod read;
 mod tables;
-#[cfg(test)]
-mod tests;
 mod values;
 
 pub use contract::{Contract, SimTable};

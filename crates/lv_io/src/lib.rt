@@ -7,8 +7,6 @@ mod mem_sink;
 mod shelf;
 mod sink;
 mod std_sink;
-#[cfg(test)]
-mod tests;
 
 pub use fs_shelf::FsShelf;
 pub use mem_shelf::MemShelf;

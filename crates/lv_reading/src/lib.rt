@@ -1,10 +1,14 @@
-//! Tests of reading a text and of printing it: its tokens, its directives, its expressions and its grammar.
+//! Tests of reading a file, a contract and a text, and of printing: tokens, directives, expressions and grammar.
 #![tactic(auto)]
 
+#[cfg(test)]
+mod contracts;
 #[cfg(test)]
 mod designs;
 #[cfg(test)]
 mod expressions;
+#[cfg(test)]
+mod files;
 #[cfg(test)]
 mod printing;
 #[cfg(test)]
@@ -13,5 +17,7 @@ mod rows;
 mod shapes;
 #[cfg(test)]
 mod tokens;
+#[cfg(test)]
+mod trees;
 #[cfg(test)]
 mod written;

@@ -4,8 +4,6 @@
 mod node;
 mod sim;
 mod task;
-#[cfg(test)]
-mod tests;
 
 pub use sim::Sim;
 pub use task::SimTask;

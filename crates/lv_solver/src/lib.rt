@@ -8,7 +8,5 @@ mod order;
 mod resolve;
 mod seen;
 mod solve_set;
-#[cfg(test)]
-mod tests;
 
 pub use solve_set::{Answer, Work, solve, solve_counted};

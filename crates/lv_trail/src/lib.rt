@@ -5,8 +5,6 @@ mod arena;
 mod lists;
 mod search;
 mod store;
-#[cfg(test)]
-mod tests;
 mod trail;
 mod watched;
 

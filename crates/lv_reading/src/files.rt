@@ -1,4 +1,4 @@
-use crate::{Failed, FsShelf, MemShelf, MemSink, Shelf, ShelfError, Sink, StdSink, put_all};
+use lv_io::{Failed, FsShelf, MemShelf, MemSink, Shelf, ShelfError, Sink, StdSink, put_all};
 use lv_bits::{Bytes, Text};
 use std::process::Abort;
 use std::test::Fail;

@@ -4,7 +4,7 @@ ghost use Rattle.lv_bits.specs.Values.{is_unary, is_apart};
 ghost use Rattle.lv_netlist.specs.Net.{IsRight, IsInner, width_at};
 ghost use Rattle.lv_netlist.specs.Fits.{FitsInputs, FitsState};
 
-use crate::Sim;
+use lv_sim::Sim;
 use lv_bits::{Op, Text, Word};
 use lv_netlist::{Builder, Graph, Node};
 use std::alloc::Global;

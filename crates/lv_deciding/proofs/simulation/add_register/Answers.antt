@@ -8,7 +8,7 @@ use Rattle.lv_netlist.specs.declared.node.Node.TheVariants.{Reg}
 use Rattle.lv_netlist.specs.declared.node.Typed.{Typed}
 use Rattle.lv_netlist.specs.declared.node.Register.{Register}
 use Rattle.lv_netlist.specs.Net.{Net, HasNexts, node_at, register_at, register_of, with_register, with_next}
-use Rattle.lv_sim.proofs.tests.add_register.Goals as goal
+use Rattle.lv_deciding.proofs.simulation.add_register.Goals as goal
 
 abbrev Held : Type 0
 Held = List ℕ × Register

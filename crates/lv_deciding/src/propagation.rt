@@ -1,6 +1,6 @@
 ghost use Rattle.std.specs.Prelude.{◌≡◌};
 
-use crate::{Reached, Trail};
+use lv_trail::{Reached, Trail};
 use lv_bits::NoMemory;
 use lv_clauses::{Clause, ClauseSet, Lit, are_within};
 use std::alloc::Global;

@@ -1,4 +1,4 @@
-use crate::{Checked, Checker};
+use lv_check::{Checked, Checker};
 use lv_bits::NoMemory;
 use lv_clauses::{Clause, ClauseSet, Derivation, Line, Lit, are_within};
 use std::alloc::Global;

@@ -1,4 +1,4 @@
-use crate::{Answer, solve};
+use lv_solver::{Answer, solve};
 use lv_bits::NoMemory;
 use lv_clauses::{ClauseSet, Derivation, Lit, are_within};
 use std::alloc::Global;

@@ -1,9 +1,6 @@
 //! Rows of edits of two contract files. `@` stands for a newline. The answers are those that docs/CONTRACT.md tells.
-use crate::contract::Contract;
-use crate::error::ContractError;
-use crate::need::Need;
-use crate::read::read_contract;
 use lv_bits::Text;
+use lv_contract::{Contract, ContractError, Need, read_contract};
 use std::alloc::Global;
 use std::str;
 use std::test::Fail;

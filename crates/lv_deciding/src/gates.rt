@@ -1,4 +1,4 @@
-use crate::And;
+use lv_aig::And;
 use std::test::Fail;
 
 #[test]

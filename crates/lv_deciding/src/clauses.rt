@@ -1,4 +1,4 @@
-use crate::{Added, Assignment, Clause, ClauseSet, Derivation, Line, Lit, are_within, has_lit};
+use lv_clauses::{Added, Assignment, Clause, ClauseSet, Derivation, Line, Lit, are_within, has_lit};
 use lv_bits::NoMemory;
 use std::alloc::Global;
 use std::test::Fail;

@@ -1,4 +1,4 @@
-use crate::{Expr, Literal, Path, PathStep, Select};
+use lv_ast::{Expr, Literal, Path, PathStep, Select};
 use lv_bits::{NoMemory, Op, Text};
 use sqlite_items::{Boxed, Items};
 use std::alloc::Global;

@@ -1,0 +1,19 @@
+//! Tests of words, simulation, circuits, clauses, the solver and the checker.
+#![tactic(auto)]
+
+#[cfg(test)]
+mod checking;
+#[cfg(test)]
+mod circuits;
+#[cfg(test)]
+mod clauses;
+#[cfg(test)]
+mod gates;
+#[cfg(test)]
+mod propagation;
+#[cfg(test)]
+mod simulation;
+#[cfg(test)]
+mod solving;
+#[cfg(test)]
+mod words;

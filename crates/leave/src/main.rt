@@ -1,38 +1,13 @@
 //! A leakage contract verifier for processors.
 #![tactic(auto)]
 
-mod answer;
-mod build;
-mod contract_file;
-mod decide;
-mod expression_text;
-mod folded;
-mod formula;
-mod next;
-mod observed;
-mod prepare;
-mod problem;
-mod queries;
-#[cfg(test)]
-mod rows;
-mod run;
-mod signals;
-mod spelled;
-mod splitter;
-#[cfg(test)]
-mod tests;
-mod trees;
-mod verdict;
-mod words;
-
 use lv_bits::Text;
 use lv_io::{FsShelf, StdSink};
-pub use run::{Status, run};
+use lv_run::{Words, run};
 use sqlite_items::Items;
 use std::env;
 use std::io::ErrorKind;
 use std::process::ExitCode;
-pub use words::Words;
 
 /// The words behind the program's name, or the status where they can't be had: 7 for want of memory, else 6. A list
 /// with a word that isn't UTF-8 is no command line: it is read as an empty one.

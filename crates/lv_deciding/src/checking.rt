@@ -1,5 +1,5 @@
-use lv_check::{Checked, Checker};
 use lv_bits::NoMemory;
+use lv_check::{Checked, Checker};
 use lv_clauses::{Clause, ClauseSet, Derivation, Line, Lit, are_within};
 use std::alloc::Global;
 use std::test::Fail;

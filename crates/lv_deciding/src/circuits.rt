@@ -3,8 +3,8 @@ ghost use Rattle.std.specs.Prelude.{◌≡◌, ℕ, ◌<◌, ◌≤◌, length, 
 ghost use Rattle.lv_bits.specs.Values.{is_unary, is_apart};
 ghost use Rattle.lv_netlist.specs.Net.{IsRight, IsInner, width_at};
 
-use lv_blast::{Encoded, clauses_of};
 use lv_bits::{OPS, Op, Text, Word, binary, unary};
+use lv_blast::{Encoded, clauses_of};
 use lv_clauses::ClauseSet;
 use lv_netlist::{Builder, Graph, Node};
 use std::alloc::Global;

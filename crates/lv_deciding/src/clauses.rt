@@ -1,5 +1,7 @@
-use lv_clauses::{Added, Assignment, Clause, ClauseSet, Derivation, Line, Lit, are_within, has_lit};
 use lv_bits::NoMemory;
+use lv_clauses::{
+    Added, Assignment, Clause, ClauseSet, Derivation, Line, Lit, are_within, has_lit,
+};
 use std::alloc::Global;
 use std::test::Fail;
 

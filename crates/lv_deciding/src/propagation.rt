@@ -1,8 +1,8 @@
 ghost use Rattle.std.specs.Prelude.{◌≡◌};
 
-use lv_trail::{Reached, Trail};
 use lv_bits::NoMemory;
 use lv_clauses::{Clause, ClauseSet, Lit, are_within};
+use lv_trail::{Reached, Trail};
 use std::alloc::Global;
 use std::test::Fail;
 

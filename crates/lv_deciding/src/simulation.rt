@@ -4,9 +4,9 @@ ghost use Rattle.lv_bits.specs.Values.{is_unary, is_apart};
 ghost use Rattle.lv_netlist.specs.Net.{IsRight, IsInner, width_at};
 ghost use Rattle.lv_netlist.specs.Fits.{FitsInputs, FitsState};
 
-use lv_sim::Sim;
 use lv_bits::{Op, Text, Word};
 use lv_netlist::{Builder, Graph, Node};
+use lv_sim::Sim;
 use std::alloc::Global;
 use std::test::Fail;
 

@@ -1,6 +1,6 @@
-use lv_solver::{Answer, solve};
 use lv_bits::NoMemory;
 use lv_clauses::{ClauseSet, Derivation, Lit, are_within};
+use lv_solver::{Answer, solve};
 use std::alloc::Global;
 use std::test::Fail;
 

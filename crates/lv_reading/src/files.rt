@@ -1,5 +1,5 @@
-use lv_io::{Failed, FsShelf, MemShelf, MemSink, Shelf, ShelfError, Sink, StdSink, put_all};
 use lv_bits::{Bytes, Text};
+use lv_io::{Failed, FsShelf, MemShelf, MemSink, Shelf, ShelfError, Sink, StdSink, put_all};
 use std::process::Abort;
 use std::test::Fail;
 

@@ -1,6 +1,6 @@
 -- Answers, put together from what was read, and what their statuses say.
-use Rattle.std.proofs.Common.{◌≡◌, ℕ, ◌≤◌, List, [], ◌∷◌, get_or, refl, sym, ◌∙◌, ap, subst, arith, inl, inr}
-use Rattle.std.specs.Prelude.{Option, Some, None, ◌⊎◌, codes}
+use Rattle.std.proofs.Common.{◌≡◌, ℕ, List, [], ◌∷◌, get_or, refl, sym, ap, subst, arith, inl, inr}
+use Rattle.std.specs.Prelude.{Option, Some, ◌⊎◌}
 use Rattle.lv_io.specs.Causes.{Rose}
 use Rattle.lv_io.specs.Files.{Files}
 use Rattle.lv_io.specs.Given.{Gains}
@@ -12,7 +12,7 @@ use Rattle.lv_contract.specs.declared.contract.Contract.{Contract}
 use Rattle.lv_run.specs.declared.answer.Answer.{Answer}
 use Rattle.lv_run.specs.declared.answer.Answer.TheVariants as a
 use Rattle.lv_run.specs.Texts.{IsTextRefusal, IsSyntaxRefusal, wrong, deep, bad_byte, bad_literal, unclosed, many_tokens, stopped, many_uses, stop_answer}
-use Rattle.lv_run.specs.Steps.{Outside, Goes, IsUnread, missing, overlong, fault, no_room, IsContractRefusal, no_toml, wrong_key, wrong_value, wrong_expression, IsContractEnd, contract_unread, no_contract, IsTextEnd, file_unread, too_long, IsSourceEnd, unread, unspelled, no_memory, IsEnd, contract_end, text_end, source_end, IsInput}
+use Rattle.lv_run.specs.Steps.{Outside, IsUnread, missing, overlong, fault, no_room, IsContractRefusal, no_toml, wrong_key, wrong_value, wrong_expression, contract_unread, no_contract, file_unread, too_long, IsSourceEnd, unread, unspelled, no_memory, IsEnd, contract_end, text_end, source_end, IsInput}
 use Rattle.lv_run.specs.Answers.{AsksFor, Verifies, Prints, IsCommandLine, IsAnswer, accepted, unproved, unbuilt, printed, ended, usage, printed_text, IsVerdict, proved, unproved_one, not_of_form, IsJudged, one_module, other, other_form, IsReported, told, cut, unwritten, Reports, IsVerifiedFile, IsUnprovedFile, IsPrintedFile, HasFault, code_of, text_of}
 use Rattle.lv_run.specs.Answers as answers
 

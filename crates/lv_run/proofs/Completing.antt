@@ -1,5 +1,5 @@
 -- A run that can be printed is printed, or wants memory.
-use Rattle.std.proofs.Common.{◌≡◌, ℕ, List, [], get_or, refl, sym, ap, subst, inl, inr}
+use Rattle.std.proofs.Common.{◌≡◌, ℕ, List, [], get_or, refl, ap, subst, inl, inr}
 use Rattle.std.specs.Prelude.{Option, Some, ◌⊎◌}
 use Rattle.lv_io.specs.Causes.{Rose}
 use Rattle.lv_io.specs.Files.{Files}

@@ -1,5 +1,5 @@
 -- What ends a step ends the run.
-use Rattle.std.proofs.Common.{◌≡◌, ℕ, ◌<◌, List, length, refl, sym, ap, subst, inl, inr}
+use Rattle.std.proofs.Common.{◌≡◌, ℕ, ◌<◌, List, length, sym, subst, inl, inr}
 use Rattle.std.specs.Prelude.{Option, ◌⊎◌}
 use Rattle.lv_io.specs.Files.{Files, HoldsFile}
 use Rattle.lv_ast.specs.declared.tokens.Token.{Token}

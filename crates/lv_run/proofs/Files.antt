@@ -5,7 +5,6 @@ use Rattle.lv_io.specs.Causes.{Rose}
 use Rattle.lv_io.specs.Files.{Files, HoldsFile, IsAbsent, IsLonger}
 use Rattle.lv_ast.specs.Sources.{source_text}
 use Rattle.lv_run.specs.declared.answer.Answer.{Answer}
-use Rattle.lv_run.specs.declared.answer.Answer.TheVariants as a
 use Rattle.lv_run.specs.Steps.{Outside, Goes, AreHeld, IsNext, IsUnread, missing, overlong, fault, no_room}
 
 pub rose_later : (x y z : ℕ) → x ≤ y → Rose y z → Rose x z

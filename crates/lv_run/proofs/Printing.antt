@@ -1,20 +1,18 @@
 -- What ends a run whose files can be printed: the text, or want of memory.
-use Rattle.std.proofs.Common.{◌≡◌, ℕ, zero, suc, ◌+◌, ◌<◌, ◌≤◌, Bool, true, false, List, [], ◌∷◌, ◌++◌, length, take, drop, get_or, refl, sym, ◌∙◌, ap, subst, arith, inl, inr}
-use Rattle.std.specs.Prelude.{Option, Some, None, ◌⊎◌, codes, IsSomeAnd}
-use Rattle.std.specs.List.{AllZip}
+use Rattle.std.proofs.Common.{◌≡◌, ℕ, suc, ◌<◌, ◌≤◌, Bool, List, [], ◌∷◌, ◌++◌, length, drop, refl, sym, ◌∙◌, ap, subst, arith}
+use Rattle.std.specs.Prelude.{Option, Some, None, IsSomeAnd}
 use Rattle.std.proofs.lemmas.List.{take-append-drop}
 use Rattle.std.proofs.Common.{length-append}
 use Rattle.toml.specs.Data.{Members}
 use Rattle.lv_io.specs.Causes.{Rose}
-use Rattle.lv_io.specs.Files.{Files, HoldsFile}
+use Rattle.lv_io.specs.Files.{Files}
 use Rattle.lv_ast.specs.declared.tokens.Token.{Token}
 use Rattle.lv_ast.specs.declared.item.Source.{Source}
 use Rattle.lv_ast.specs.Sources.{source_text}
 use Rattle.lv_ast.specs.TokenLists.{IsTokenListOf}
 use Rattle.lv_ast.specs.Folds.{reading_of, counted}
-use Rattle.lv_lexer.specs.declared.error.LexError.{LexError}
 use Rattle.lv_lexer.specs.declared.error.LexError.TheVariants as lex
-use Rattle.lv_lexer.specs.Refusals.{Stand, IsLexRefusal}
+use Rattle.lv_lexer.specs.Refusals.{Stand}
 use Rattle.lv_lexer.proofs.Refused.{no_refusal}
 use Rattle.lv_lexer.proofs.Unique.{one_token_list}
 use Rattle.lv_viable.specs.Spelling.{IsSpelled}

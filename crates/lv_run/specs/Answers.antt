@@ -9,7 +9,7 @@ use Rattle.lv_ast.specs.declared.item.Source.{Source}
 use Rattle.lv_ast.specs.Names.{Name}
 use Rattle.lv_contract.specs.declared.named.PortText.{PortText}
 use Rattle.lv_contract.specs.declared.contract.Contract.{Contract}
-use Rattle.lv_model.specs.Machine.{Machine, Safe, IsInductive, Implies, IsMet, Initial, Allowed}
+use Rattle.lv_model.specs.Machine.{Safe, IsInductive, Implies, IsMet, Initial, Allowed}
 use Rattle.lv_print.specs.Written as written
 use Rattle.lv_print.specs.Sources.{source_tokens}
 use Rattle.lv_run.specs.declared.answer.Answer.{Answer}

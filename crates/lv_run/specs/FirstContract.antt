@@ -1,5 +1,5 @@
 -- The form of contract that is decided: one file, one port, no lookahead, all candidates, and nothing besides.
-use Rattle.std.specs.Prelude.{◌≡◌, ℕ, Bool, true, false, ◌&&◌, ◌==◌, List, [], ◌∷◌, map, length, Option, Some, None}
+use Rattle.std.specs.Prelude.{◌≡◌, Bool, true, false, ◌&&◌, ◌==◌, List, [], ◌∷◌, map, length, Option, Some, None}
 use Rattle.lv_ast.specs.declared.expr.Expr.{Expr}
 use Rattle.lv_contract.specs.declared.named.Named.{Named}
 use Rattle.lv_contract.specs.declared.named.PortText.{PortText}

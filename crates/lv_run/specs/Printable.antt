@@ -1,5 +1,5 @@
 -- The files that `print` prints.
-use Rattle.std.specs.Prelude.{◌≡◌, ℕ, ◌≤◌, true, List, length, Option, Some, None}
+use Rattle.std.specs.Prelude.{◌≡◌, ℕ, ◌≤◌, true, List, length, Some, None}
 use Rattle.lv_io.specs.Files.{Files}
 use Rattle.lv_ast.specs.declared.item.Source.{Source}
 use Rattle.lv_ast.specs.declared.tokens.Token.{Token}

@@ -10,7 +10,6 @@ use Rattle.lv_ast.specs.Sources.{source_text}
 use Rattle.lv_ast.specs.declared.tokens.Token.{Token}
 use Rattle.lv_parser.specs.Answers.{IsSource}
 use Rattle.lv_contract.specs.declared.contract.Contract.{Contract}
-use Rattle.lv_contract.specs.declared.error.ContractError.{ContractError}
 use Rattle.lv_contract.specs.declared.error.ContractError.TheVariants as e
 use Rattle.lv_contract.specs.declared.need.Need.TheVariants as n
 use Rattle.lv_contract.specs.Says as says

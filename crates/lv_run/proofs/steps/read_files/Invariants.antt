@@ -1,5 +1,4 @@
 use Rattle.std.proofs.Common.{take}
-use Rattle.lv_run.specs.Steps.{Outside, Goes, AreHeld}
 use Rattle.lv_run.proofs.Files.{Gathered}
 use Rattle.lv_run.proofs.steps.read_files.Given as goal
 

@@ -1,8 +1,6 @@
-use Rattle.std.proofs.Common.{◌≡◌, List, ℕ, refl, sym, subst}
-use Rattle.lv_io.specs.declared.shelf.ShelfError.{ShelfError}
+use Rattle.std.proofs.Common.{sym, subst}
 use Rattle.lv_io.specs.Files.{IsAbsent, IsLonger}
-use Rattle.lv_run.specs.declared.answer.Answer.TheVariants as a
-use Rattle.lv_run.specs.Steps.{Outside, IsCause, IsUnread, missing, overlong, fault, no_room}
+use Rattle.lv_run.specs.Steps.{missing, overlong, fault, no_room}
 use Rattle.lv_run.proofs.steps.refused.Goals as goal
 
 pub returns-in_default : goal.returns-in_default

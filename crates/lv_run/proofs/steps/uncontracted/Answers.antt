@@ -1,7 +1,4 @@
-use Rattle.std.proofs.Common.{◌≡◌, List, ℕ, refl, sym, ◌∙◌, subst, inl, inr}
-use Rattle.lv_contract.specs.declared.error.ContractError.{ContractError}
-use Rattle.lv_contract.specs.declared.need.Need.TheVariants.{Nothing}
-use Rattle.lv_contract.specs.Refusals.{IsRefusal}
+use Rattle.std.proofs.Common.{inl}
 use Rattle.lv_run.specs.Steps.{no_toml, wrong_key, wrong_value, wrong_expression}
 use Rattle.lv_run.proofs.steps.uncontracted.Goals as goal
 

@@ -1,5 +1,5 @@
 -- The value at a width and a sign, by the kind of the operator.
-use Rattle.std.proofs.Common.{◌≡◌, ◌≢◌, ℕ, ◌%◌, ◌^◌, Bool, true, false, List, map, ap, ◌∙◌, arith}
+use Rattle.std.proofs.Common.{◌≡◌, ◌≢◌, ℕ, ◌*◌, ◌%◌, ◌^◌, Bool, true, false, List, map, ap, ◌∙◌, arith}
 use Rattle.lv_bits.specs.declared.op.Op.{Op}
 use Rattle.lv_bits.specs.Values.{extended, is_apart, keeps_width, unary_value, binary_value}
 use Rattle.lv_ast.specs.declared.expr.Literal.{Literal}
@@ -17,7 +17,7 @@ module _ (names : Names) (W : ℕ) (T : Bool) (v : Valuation) where
   unary_kept : (op : Op) (m : Meaning) → keeps_width op ≡ true → (unary op m).value W T v ≡ unary_value op W (m.value W T v)
   unary_kept op m h = rw h
 
-  unary_own : (op : Op) (m : Meaning) → keeps_width op ≡ false → (unary op m).value W T v ≡ unary_value op m.width (own_value m v)
+  unary_own : (op : Op) (m : Meaning) → keeps_width op ≡ false → (unary op m).value W T v ≡ extended T 1 W (unary_value op m.width (own_value m v))
   unary_own op m h = rw h
 
   binary_shift : (op : Op) (m n : Meaning) → keeps_width op ≡ true → is_apart op ≡ true → (binary op m n).value W T v ≡ (shift op m n).value W T v
@@ -40,7 +40,7 @@ module _ (names : Names) (W : ℕ) (T : Bool) (v : Valuation) where
   value-Un_kept op a h = ap (at W T v) (read-Un names op a) ∙ unary_kept op (meaning names a) h
 
   pub value-Un_own : (op : Op) (a : Expr) → keeps_width op ≡ false →
-      (read_expr names (e.Un op a)).meaning.value W T v ≡ unary_value op (read_expr names a).meaning.width (own_value (read_expr names a).meaning v)
+      (read_expr names (e.Un op a)).meaning.value W T v ≡ extended T 1 W (unary_value op (read_expr names a).meaning.width (own_value (read_expr names a).meaning v))
   value-Un_own op a h = ap (at W T v) (read-Un names op a) ∙ unary_own op (meaning names a) h
 
   pub value-Bin_shift : (op : Op) (a b : Expr) → keeps_width op ≡ true → is_apart op ≡ true →
@@ -53,7 +53,7 @@ module _ (names : Names) (W : ℕ) (T : Bool) (v : Valuation) where
 
   pub value-Bin_logical : (op : Op) (a b : Expr) → keeps_width op ≡ false → is_apart op ≡ true →
       (read_expr names (e.Bin op a b)).meaning.value W T v ≡
-      binary_value op false (read_expr names a).meaning.width (own_value (read_expr names a).meaning v) (own_value (read_expr names b).meaning v)
+      extended T 1 W (binary_value op false (read_expr names a).meaning.width (own_value (read_expr names a).meaning v) (own_value (read_expr names b).meaning v))
   value-Bin_logical op a b h k = ap (at W T v) (read-Bin names op a b) ∙ binary_logical op (meaning names a) (meaning names b) h k
 
   pub value-Bin_compared : (op : Op) (a b : Expr) → keeps_width op ≡ false → is_apart op ≡ false →
@@ -76,12 +76,13 @@ module _ (names : Names) (W : ℕ) (T : Bool) (v : Valuation) where
       (read_expr names (e.Cond c a b)).meaning.value W T v ≡ (read_expr names a).meaning.value W T v
   value-Cond_then c a b h = ap (at W T v) (read-Cond names c a b) ∙ grind (arith, h)
 
-  pub value-Cat : (es : List Expr) → (read_expr names (e.Cat es)).meaning.value W T v ≡ joined v (meanings (map (read_expr names) es))
+  pub value-Cat : (es : List Expr) → (read_expr names (e.Cat es)).meaning.value W T v ≡ extended T (widths (meanings (map (read_expr names) es))) W (joined v (meanings (map (read_expr names) es)))
   value-Cat es = ap (at W T v) (read-Cat names es)
 
   pub value-Rep : (n : Expr) (es : List Expr) →
       (read_expr names (e.Rep n es)).meaning.value W T v ≡
-      repeated (own_value (read_expr names n).meaning nowhere) (widths (meanings (map (read_expr names) es))) (joined v (meanings (map (read_expr names) es)))
+      extended T (own_value (read_expr names n).meaning nowhere * widths (meanings (map (read_expr names) es))) W
+      (repeated (own_value (read_expr names n).meaning nowhere) (widths (meanings (map (read_expr names) es))) (joined v (meanings (map (read_expr names) es))))
   value-Rep n es = ap (at W T v) (read-Rep names n es)
 
   pub value-Cast : (signed : Bool) (a : Expr) →

@@ -10,11 +10,11 @@ use Rattle.lv_ast.specs.declared.stmt.Target.{Target}
 use Rattle.lv_ast.specs.declared.stmt.Target.TheOpen.{Target-F}
 use Rattle.lv_ast.specs.declared.stmt.Stmt.{Stmt}
 use Rattle.lv_ast.specs.declared.stmt.Stmt.TheOpen.{Stmt-F, Arm-F}
-use Rattle.lv_ast.specs.Values.{Meaning, size_of, nowhere}
+use Rattle.lv_ast.specs.Values.{Meaning, own_value, size_of, nowhere}
 use Rattle.lv_ast.specs.Trees.{fold_target, fold_stmt}
 use Rattle.lv_ast.specs.Names.{Name, Names, Declared, Valuation, Constant, with_name, known, is_signal_sort}
 use Rattle.lv_ast.specs.Places.{Place, place_of, nowhere_place, write}
-use Rattle.lv_ast.specs.Meaning.{Choice, meant, read_select, meaning, own, constant_value}
+use Rattle.lv_ast.specs.Meaning.{Reading, Choice, meant, read_expr, read_select, meaning, constant_value}
 
 -- a name in a target, with its selects
 pub record Piece : Type 0 where
@@ -65,58 +65,100 @@ write_all v (p ∷ ps) x = write_all (write v p (x / 2 ^ bits_in ps % 2 ^ length
 abbrev pub assigned : Valuation → ℕ → Meaning → ℕ
 assigned v width m = m.value (max width m.width) m.signed v % 2 ^ width
 
--- ---- case
+-- ---- conditions
+
+abbrev pub is_met : Valuation → Reading → Bool
+is_met v r = not (own_value r.meaning v == 0)
 
 abbrev pub is_set : Names → Valuation → Expr → Bool
-is_set names v x = not (own names x v == 0)
+is_set names v x = is_met v (read_expr names x)
 
-abbrev pub no_literal : Literal
-no_literal = record { size = None; plain = false; signed = false; value = 0; wild = 0; place = 0 }
+-- ---- case, over what is read of its expressions
+
+-- what is read of a label, and the literal that it is, if it is one
+pub record Label : Type 0 where
+  pub reading : Reading
+  pub literal : Option Literal
+
+pub record Arm (A : Type 0) : Type 0 where
+  pub labels : List Label
+  pub body : A
 
 -- without a size the free bits may go on above the 32
-abbrev pub free_bits : Bool → ℕ → Expr → ℕ
-free_bits signed w (e.Lit l) = let n : ℕ = size_of l.size in bit_or (l.wild % 2 ^ w) (extended signed n w (l.wild % 2 ^ n))
-free_bits signed w _ = 0
+abbrev pub free_of : Bool → ℕ → Option Literal → ℕ
+free_of signed w None = 0
+free_of signed w (Some l) = let n : ℕ = size_of l.size in bit_or (l.wild % 2 ^ w) (extended signed n w (l.wild % 2 ^ n))
 
 pub record Width : Type 0 where
   pub width : ℕ
   pub signed : Bool
 
 -- the longest width of a `case`, and whether all are signed
-abbrev pub common : Names → Expr → List Expr → Width
-common names x [] = record { width = (meaning names x).width; signed = (meaning names x).signed }
-common names x (l ∷ ls) = let c : Width = common names x ls in record { width = max (meaning names l).width c.width; signed = (meaning names l).signed && c.signed }
+abbrev pub common_of : Reading → List Label → Width
+common_of x [] = record { width = x.meaning.width; signed = x.meaning.signed }
+common_of x (l ∷ ls) =
+    let c : Width = common_of x ls in
+    record { width = max l.reading.meaning.width c.width; signed = l.reading.meaning.signed && c.signed }
 
 -- the number x, at that width, fits the label
+abbrev pub fits_label : Valuation → Bool → Width → ℕ → Label → Bool
+fits_label v wild c x l =
+    let free : ℕ = if wild then free_of c.signed c.width l.literal else 0 in
+    bit_or x free == bit_or (l.reading.meaning.value c.width c.signed v) free
+
+abbrev pub is_default : {L : Type 0} → List L → Bool
+is_default [] = true
+is_default (x ∷ xs) = false
+
+abbrev pub arm_labels : {A : Type 0} → List (Arm A) → List Label
+arm_labels arms = flat_map (λ a. a.labels) arms
+
+-- the first arm with a label that fits, or the default
+abbrev pub taken_of : {A : Type 0} → (Label → Bool) → List (Arm A) → A → A
+taken_of fits [] default = default
+taken_of fits (a ∷ arms) default =
+    if list_any fits a.labels then a.body else taken_of fits arms (if is_default a.labels then a.body else default)
+
+-- the number of the selector
+abbrev pub selected_of : Reading → Width → Valuation → ℕ
+selected_of x c v = x.meaning.value c.width c.signed v
+
+abbrev pub case_of : Bool → Reading → List (Arm (State → State)) → State → State
+case_of wild x arms s =
+    let c : Width = common_of x (arm_labels arms) in
+    taken_of (fits_label s.valuation wild c (selected_of x c s.valuation)) arms (λ s. s) s
+
+-- ---- case, over trees
+
+abbrev pub literal_of : Expr → Option Literal
+literal_of (e.Lit l) = Some l
+literal_of _ = None
+
+abbrev pub label_of : Names → Expr → Label
+label_of names e = record { reading = read_expr names e; literal = literal_of e }
+
+abbrev pub free_bits : Bool → ℕ → Expr → ℕ
+free_bits signed w e = free_of signed w (literal_of e)
+
+abbrev pub common : Names → Expr → List Expr → Width
+common names x ls = common_of (read_expr names x) (map (label_of names) ls)
+
 abbrev pub is_match : Names → Valuation → Bool → Width → ℕ → Expr → Bool
-is_match names v wild c x label =
-    let free : ℕ = if wild then free_bits c.signed c.width label else 0 in
-    bit_or x free == bit_or ((meaning names label).value c.width c.signed v) free
+is_match names v wild c x label = fits_label v wild c x (label_of names label)
 
 pub record ArmOf (A : Type 0) : Type 0 where
   pub labels : List Expr
   pub body : A
 
-abbrev pub is_default : List Expr → Bool
-is_default [] = true
-is_default (x ∷ xs) = false
-
 abbrev pub all_labels : {A : Type 0} → List (ArmOf A) → List Expr
 all_labels arms = flat_map (λ a. a.labels) arms
 
--- the first arm with a label that fits, or the default
-abbrev pub arm_taken : {A : Type 0} → (Expr → Bool) → List (ArmOf A) → A → A
-arm_taken fits [] default = default
-arm_taken fits (a ∷ arms) default =
-    if list_any fits a.labels then a.body else arm_taken fits arms (if is_default a.labels then a.body else default)
-
-abbrev pub unchanged : Effect
-unchanged names s = s
+-- an arm, where names are known
+abbrev pub read_arm : {A : Type 0} → Names → ArmOf (Names → A) → Arm A
+read_arm names a = record { labels = map (label_of names) a.labels; body = a.body names }
 
 abbrev pub case_effect : Bool → Expr → List (ArmOf Effect) → Effect
-case_effect wild x arms names s =
-    let c : Width = common names x (all_labels arms) in
-    arm_taken (is_match names s.valuation wild c ((meaning names x).value c.width c.signed s.valuation)) arms unchanged names s
+case_effect wild x arms names s = case_of wild (read_expr names x) (map (read_arm names) arms) s
 
 -- ---- loops
 
@@ -139,11 +181,31 @@ turns_from (suc n) names index place test next value =
 unfoldable pub turns : Names → Name → ℕ → Expr → Expr → Expr → List ℕ
 turns names index place start test next = turns_from 1000001 names index place test next (index_value names start)
 
--- ---- statements
+-- ---- statements, over what is read of their expressions
+
+abbrev pub one_by_one : List (State → State) → State → State
+one_by_one [] s = s
+one_by_one (f ∷ fs) s = one_by_one fs (f s)
+
+abbrev pub if_of : Reading → (State → State) → (State → State) → State → State
+if_of x then_ else_ s = if is_met s.valuation x then then_ s else else_ s
+
+-- `=`
+abbrev pub now_of : List Piece → Reading → State → State
+now_of target x s =
+    let ps : List Place = places s.valuation target in
+    record s { valuation = write_all s.valuation ps (assigned s.valuation (bits_in ps) x.meaning) }
+
+-- `<=`
+abbrev pub later_of : List Piece → Reading → State → State
+later_of target x s =
+    let ps : List Place = places s.valuation target in
+    record s { pending = s.pending ++ record { places = ps; value = assigned s.valuation (bits_in ps) x.meaning } ∷ [] }
+
+-- ---- statements, over trees
 
 abbrev pub in_order : List Effect → Effect
-in_order [] names s = s
-in_order (f ∷ fs) names s = in_order fs names (f names s)
+in_order fs names s = one_by_one (map (λ f. f names) fs) s
 
 abbrev pub otherwise : Option Effect → Effect
 otherwise None names s = s
@@ -151,22 +213,17 @@ otherwise (Some f) names s = f names s
 
 -- the body of a loop, once for each value
 abbrev pub each_turn : (ℕ → Names) → Effect → List ℕ → State → State
-each_turn at body [] s = s
-each_turn at body (x ∷ xs) s = each_turn at body xs (body (at x) s)
+each_turn at body ks s = one_by_one (map (λ k. body (at k)) ks) s
 
 abbrev pub effect_step : Stmt-F Effect (ArmOf Effect) → Effect
 effect_step Stmt-F.Null names s = s
 effect_step (Stmt-F.Block name body) names s = in_order body names s
-effect_step (Stmt-F.If x then_ else_) names s = if is_set names s.valuation x then then_ names s else otherwise else_ names s
+effect_step (Stmt-F.If x then_ else_) names s = if_of (read_expr names x) (then_ names) (otherwise else_ names) s
 effect_step (Stmt-F.Case wild x arms) names s = case_effect wild x arms names s
 effect_step (Stmt-F.Loop index start test again next body) names s =
     each_turn (with_index names index.name index.place) body (turns names index.name index.place start test next) s
-effect_step (Stmt-F.Now target x place) names s =
-    let ps : List Place = places s.valuation (pieces names target) in
-    record s { valuation = write_all s.valuation ps (assigned s.valuation (bits_in ps) (meaning names x)) }
-effect_step (Stmt-F.Later target x place) names s =
-    let ps : List Place = places s.valuation (pieces names target) in
-    record s { pending = s.pending ++ record { places = ps; value = assigned s.valuation (bits_in ps) (meaning names x) } ∷ [] }
+effect_step (Stmt-F.Now target x place) names s = now_of (pieces names target) (read_expr names x) s
+effect_step (Stmt-F.Later target x place) names s = later_of (pieces names target) (read_expr names x) s
 
 abbrev pub arm_step : {A : Type 0} → Arm-F A (ArmOf A) → ArmOf A
 arm_step a = record { labels = a.labels; body = a.body }
@@ -181,5 +238,8 @@ applied v [] = v
 applied v (u ∷ us) = applied (write_all v u.places u.value) us
 
 -- what a block leaves of v: its own writes at once, and then its pending updates in order
+abbrev pub left_of : (State → State) → Valuation → Valuation
+left_of block v = let s : State = block (record { valuation = v; pending = [] }) in applied s.valuation s.pending
+
 abbrev pub left_by : Names → Stmt → Valuation → Valuation
-left_by names stmt v = let s : State = executes names stmt (record { valuation = v; pending = [] }) in applied s.valuation s.pending
+left_by names stmt v = left_of (executes names stmt) v

@@ -35,7 +35,7 @@ abbrev pub plain : ℕ → Bool → (Valuation → ℕ) → Meaning
 plain w signed f = record { width = w; signed = signed; value = λ W T v. extended T w W (f v) }
 
 abbrev pub one_bit : (Valuation → ℕ) → Meaning
-one_bit f = record { width = 1; signed = false; value = λ W T v. f v }
+one_bit f = plain 1 false f
 
 -- ---- operators
 
@@ -106,7 +106,7 @@ joined v [] = 0
 joined v (m ∷ ms) = own_value m v * 2 ^ widths ms + joined v ms
 
 abbrev pub concatenated : List Meaning → Meaning
-concatenated ms = record { width = widths ms; signed = false; value = λ W T v. joined v ms }
+concatenated ms = plain (widths ms) false (λ v. joined v ms)
 
 -- w bits, so many times
 abbrev pub repeated : ℕ → ℕ → ℕ → ℕ
@@ -116,7 +116,7 @@ repeated (suc n) w a = repeated n w a * 2 ^ w + a
 abbrev pub replicated : Meaning → List Meaning → Meaning
 replicated n ms =
     let count = own_value n nowhere in
-    record { width = count * widths ms; signed = false; value = λ W T v. repeated count (widths ms) (joined v ms) }
+    plain (count * widths ms) false (λ v. repeated count (widths ms) (joined v ms))
 
 -- ---- selects
 

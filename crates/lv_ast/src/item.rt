@@ -1,26 +1,50 @@
+ghost use Rattle.std.specs.Prelude.{◌≡◌};
+
 use crate::{Expr, Ident, Stmt, Target};
+use lv_held::Held;
 use sqlite_items::Items;
 
 /// The bounds of a vector or an array, `[left:right]`.
-#[derive(Drop)]
 pub struct Range {
-    pub left: Expr,
-    pub right: Expr,
+    pub left: Held<Expr>,
+    pub right: Held<Expr>,
+}
+
+impl Drop for Range {
+    fn drop(self) {
+        let Range { left, right } = self;
+        drop(left);
+        drop(right);
+    }
 }
 
 /// A parameter with its value.
-#[derive(Drop)]
 pub struct Setting {
     pub name: Ident,
-    pub value: Expr,
+    pub value: Held<Expr>,
+}
+
+impl Drop for Setting {
+    fn drop(self) {
+        let Setting { name, value } = self;
+        drop(name);
+        drop(value);
+    }
 }
 
 /// Parameters that are declared together.
-#[derive(Drop)]
 pub struct Params {
     pub signed: bool,
     pub range: Option<Range>,
     pub list: Items<Setting>,
+}
+
+impl Drop for Params {
+    fn drop(self) {
+        let Params { signed: _, range, list } = self;
+        drop(range);
+        drop(list);
+    }
 }
 
 /// What a direction says besides: nothing, `wire` or `reg`.
@@ -32,13 +56,20 @@ pub enum PortWord {
 }
 
 /// Ports of one direction.
-#[derive(Drop)]
 pub struct Aport {
     pub output: bool,
     pub word: PortWord,
     pub signed: bool,
     pub range: Option<Range>,
     pub names: Items<Ident>,
+}
+
+impl Drop for Aport {
+    fn drop(self) {
+        let Aport { output: _, word: _, signed: _, range, names } = self;
+        drop(range);
+        drop(names);
+    }
 }
 
 /// The list in a module's header.
@@ -51,25 +82,46 @@ pub enum Ports {
 }
 
 /// A net, and the expression that drives it.
-#[derive(Drop)]
 pub struct NetName {
     pub name: Ident,
-    pub value: Option<Expr>,
+    pub value: Option<Held<Expr>>,
+}
+
+impl Drop for NetName {
+    fn drop(self) {
+        let NetName { name, value } = self;
+        drop(name);
+        drop(value);
+    }
 }
 
 /// A variable, and its bounds where it is an array.
-#[derive(Drop)]
 pub struct RegName {
     pub name: Ident,
     pub bounds: Option<Range>,
 }
 
+impl Drop for RegName {
+    fn drop(self) {
+        let RegName { name, bounds } = self;
+        drop(name);
+        drop(bounds);
+    }
+}
+
 /// A continuous assignment, with the place of its first token.
-#[derive(Drop)]
 pub struct Continuous {
     pub target: Target,
-    pub value: Expr,
+    pub value: Held<Expr>,
     pub place: u64,
+}
+
+impl Drop for Continuous {
+    fn drop(self) {
+        let Continuous { target, value, place: _ } = self;
+        drop(target);
+        drop(value);
+    }
 }
 
 /// What an `always` waits for: `*`, `( * )` or an edge of a clock.
@@ -81,18 +133,32 @@ pub enum Watch {
 }
 
 /// A connection of an instance; an ordered one has no name.
-#[derive(Drop)]
 pub struct Conn {
     pub name: Option<Ident>,
-    pub value: Option<Expr>,
+    pub value: Option<Held<Expr>>,
     pub place: u64,
 }
 
+impl Drop for Conn {
+    fn drop(self) {
+        let Conn { name, value, place: _ } = self;
+        drop(name);
+        drop(value);
+    }
+}
+
 /// An instance of a module.
-#[derive(Drop)]
 pub struct Inst {
     pub name: Ident,
     pub conns: Items<Conn>,
+}
+
+impl Drop for Inst {
+    fn drop(self) {
+        let Inst { name, conns } = self;
+        drop(name);
+        drop(conns);
+    }
 }
 
 /// An item of a module or a generate block (IEEE 1364-2005, section 12).
@@ -114,11 +180,10 @@ pub enum Item {
     Instance(Ident, Items<Conn>, Items<Inst>),
     Generate(Items<Item>),
     /// The genvar and its first value, the test, the genvar again with its next value, the label, and the items.
-    Loop(Ident, Expr, Expr, Ident, Expr, Ident, Items<Item>),
+    Loop(Ident, Held<Expr>, Held<Expr>, Ident, Held<Expr>, Ident, Items<Item>),
 }
 
 /// A module.
-#[derive(Drop)]
 pub struct Module {
     pub name: Ident,
     pub params: Items<Params>,
@@ -126,8 +191,54 @@ pub struct Module {
     pub items: Items<Item>,
 }
 
+impl Drop for Module {
+    fn drop(self) {
+        let Module { name, params, ports, items } = self;
+        drop(name);
+        drop(params);
+        drop(ports);
+        drop(items);
+    }
+}
+
 /// The modules of all files.
-#[derive(Drop)]
 pub struct Source {
     pub modules: Items<Module>,
+}
+
+impl Drop for Source {
+    fn drop(self) {
+        let Source { modules } = self;
+        drop(modules);
+    }
+}
+
+impl Params {
+    /// Its fields.
+    pub fn into_parts(self) -> (bool, Option<Range>, Items<Setting>)
+        ensures { result ≡ (self.signed, self.range, self.list) }
+    {
+        let Params {
+            signed,
+            range,
+            list,
+        } = self;
+        (signed, range, list)
+    }
+}
+
+impl Aport {
+    /// What stands before its names, and these.
+    pub fn into_parts(self) -> (((bool, PortWord), (bool, Option<Range>)), Items<Ident>)
+        ensures { result ≡ (((self.output, self.word), (self.signed, self.range)), self.names) }
+    {
+        let Aport {
+            output,
+            word,
+            signed,
+            range,
+            names,
+        } = self;
+        (((output, word), (signed, range)), names)
+    }
 }

@@ -1,5 +1,6 @@
 use crate::{Expr, Path, Select};
 use lv_bits::Text;
+use lv_held::Held;
 use sqlite_items::{Boxed, Items};
 
 /// A name where it is declared or used.
@@ -30,13 +31,13 @@ pub struct Arm {
 pub enum Stmt {
     Null,
     Block(Option<Ident>, Items<Stmt>),
-    If(Expr, Boxed<Stmt>, Option<Boxed<Stmt>>),
+    If(Held<Expr>, Boxed<Stmt>, Option<Boxed<Stmt>>),
     /// Whether it is `casez`.
-    Case(bool, Expr, Items<Arm>),
+    Case(bool, Held<Expr>, Items<Arm>),
     /// The index and its first value, the test, and the index again with its next value.
-    Loop(Ident, Expr, Expr, Ident, Expr, Boxed<Stmt>),
+    Loop(Ident, Held<Expr>, Held<Expr>, Ident, Held<Expr>, Boxed<Stmt>),
     /// A blocking assignment, with the place of its target.
-    Now(Target, Expr, u64),
+    Now(Target, Held<Expr>, u64),
     /// A nonblocking assignment, with the place of its target.
-    Later(Target, Expr, u64),
+    Later(Target, Held<Expr>, u64),
 }

@@ -7,6 +7,7 @@ use crate::operand::Content;
 use crate::symbol::{Based, Divider, Name, Number, Sign};
 use lv_ast::{Expr, Literal, Path, PathStep, Select};
 use lv_bits::{NoMemory, Op, Text};
+use lv_held::Held;
 use sqlite_items::{Boxed, Items};
 use std::alloc::Global;
 
@@ -95,43 +96,43 @@ pub fn steps_behind(path: Path, index: Option<u128>) -> Result<(Items<PathStep>,
     Ok((steps, place))
 }
 
-pub fn select_one(alloc: Global, index: Expr) -> Result<Select, NoMemory>
+pub fn select_one(alloc: Global, index: Held<Expr>) -> Result<Select, NoMemory>
     ensures { IfOk result (λ s. s ≡ Select.Bit index) }
 {
-    Ok(Select::Bit(Boxed::new(alloc, index)?))
+    Ok(Select::Bit(Boxed::new(alloc, index.into_inner())?))
 }
 
 /// A name and its one select.
 pub fn element_selects(alloc: Global, number: Number) -> Result<Items<Select>, NoMemory>
     ensures { IfOk result (λ ss. ss ≡ Select.Bit (Expr.Lit (trees.plain_literal number)) ∷ []) }
 {
-    let select = select_one(alloc, Expr::Lit(plain_literal(number)))?;
+    let select = select_one(alloc, Held::new(Expr::Lit(plain_literal(number))))?;
     let mut selects = Items::new(alloc);
     selects.push(select)?;
     Ok(selects)
 }
 
-pub fn into_tree(alloc: Global, content: Content) -> Result<Expr, NoMemory>
+pub fn into_tree(alloc: Global, content: Content) -> Result<Held<Expr>, NoMemory>
     ensures { IfOk result (λ e. e ≡ step.tree_of content) }
 {
     match content {
-        Content::Number(number) => Ok(Expr::Lit(plain_literal(number))),
-        Content::Name(path, selects) => Ok(Expr::Name(path, selects)),
+        Content::Number(number) => Ok(Held::new(Expr::Lit(plain_literal(number)))),
+        Content::Name(path, selects) => Ok(Held::new(Expr::Name(path, selects))),
         Content::Element(path, number) => {
             let selects = element_selects(alloc, number)?;
-            Ok(Expr::Name(path, selects))
+            Ok(Held::new(Expr::Name(path, selects)))
         }
         Content::Tree(tree) => Ok(tree),
     }
 }
 
-fn one(alloc: Global, op: Op, x: Expr) -> Result<Expr, NoMemory>
+fn one(alloc: Global, op: Op, x: Held<Expr>) -> Result<Held<Expr>, NoMemory>
     ensures { IfOk result (λ e. e ≡ Expr.Un op x) }
 {
-    Ok(Expr::Un(op, Boxed::new(alloc, x)?))
+    Ok(Held::new(Expr::Un(op, Boxed::new(alloc, x.into_inner())?)))
 }
 
-fn turned(alloc: Global, op: Op, x: Expr) -> Result<Expr, NoMemory>
+fn turned(alloc: Global, op: Op, x: Held<Expr>) -> Result<Held<Expr>, NoMemory>
     ensures { IfOk result (λ e. e ≡ Expr.Un Op.LogNot (Expr.Un op x)) }
 {
     let reduced = one(alloc, op, x)?;
@@ -139,7 +140,7 @@ fn turned(alloc: Global, op: Op, x: Expr) -> Result<Expr, NoMemory>
 }
 
 /// The tree of an operand behind a sign.
-pub fn unary(alloc: Global, sign: Sign, x: Expr) -> Result<Expr, NoMemory>
+pub fn unary(alloc: Global, sign: Sign, x: Held<Expr>) -> Result<Held<Expr>, NoMemory>
     ensures { IfOk result (λ e. e ≡ trees.unary sign x) }
 {
     match sign {
@@ -182,44 +183,70 @@ fn infix_op(sign: Sign) -> Op
     }
 }
 
+fn boxed<T: Drop>(alloc: Global, x: T) -> Result<Boxed<T>, NoMemory>
+    ensures { IfOk result (λ b. b ≡ x) }
+{
+    Ok(Boxed::new(alloc, x)?)
+}
+
+/// Boxes both.
+fn pair<A: Drop, B: Drop>(alloc: Global, x: A, y: B) -> Result<(Boxed<A>, Boxed<B>), NoMemory>
+    ensures { IfOk result (λ r. r ≡ (x, y)) }
+{
+    let x = boxed(alloc, x)?;
+    let y = boxed(alloc, y)?;
+    Ok((x, y))
+}
+
+/// Boxes all three.
+fn triple<A: Drop, B: Drop, C: Drop>(
+    alloc: Global,
+    x: A,
+    y: B,
+    z: C,
+) -> Result<(Boxed<A>, Boxed<B>, Boxed<C>), NoMemory>
+    ensures { IfOk result (λ r. r ≡ (x, y, z)) }
+{
+    let x = boxed(alloc, x)?;
+    let (y, z) = pair(alloc, y, z)?;
+    Ok((x, y, z))
+}
+
 /// The tree of two operands with a sign between them.
-pub fn infix_tree(alloc: Global, sign: Sign, x: Expr, y: Expr) -> Result<Expr, NoMemory>
+pub fn infix_tree(alloc: Global, sign: Sign, x: Held<Expr>, y: Held<Expr>) -> Result<Held<Expr>, NoMemory>
     ensures { IfOk result (λ e. e ≡ trees.infix_tree sign x y) }
 {
-    let x = Boxed::new(alloc, x)?;
-    let y = Boxed::new(alloc, y)?;
+    let (x, y) = pair(alloc, x.into_inner(), y.into_inner())?;
     match sign {
-        Sign::Slash => Ok(Expr::Div(x, y)),
-        Sign::Percent => Ok(Expr::Rem(x, y)),
-        _ => Ok(Expr::Bin(infix_op(sign), x, y)),
+        Sign::Slash => Ok(Held::new(Expr::Div(x, y))),
+        Sign::Percent => Ok(Held::new(Expr::Rem(x, y))),
+        _ => Ok(Held::new(Expr::Bin(infix_op(sign), x, y))),
     }
 }
 
-pub fn choice(alloc: Global, c: Expr, x: Expr, y: Expr) -> Result<Expr, NoMemory>
+pub fn choice(alloc: Global, c: Held<Expr>, x: Held<Expr>, y: Held<Expr>) -> Result<Held<Expr>, NoMemory>
     ensures { IfOk result (λ e. e ≡ Expr.Cond c x y) }
 {
-    let c = Boxed::new(alloc, c)?;
-    let x = Boxed::new(alloc, x)?;
-    Ok(Expr::Cond(c, x, Boxed::new(alloc, y)?))
+    let (c, x, y) = triple(alloc, c.into_inner(), x.into_inner(), y.into_inner())?;
+    Ok(Held::new(Expr::Cond(c, x, y)))
 }
 
-pub fn cast(alloc: Global, signed: bool, x: Expr) -> Result<Expr, NoMemory>
+pub fn cast(alloc: Global, signed: bool, x: Held<Expr>) -> Result<Held<Expr>, NoMemory>
     ensures { IfOk result (λ e. e ≡ Expr.Cast signed x) }
 {
-    Ok(Expr::Cast(signed, Boxed::new(alloc, x)?))
+    Ok(Held::new(Expr::Cast(signed, Boxed::new(alloc, x.into_inner())?)))
 }
 
-pub fn repeat(alloc: Global, count: Expr, list: Items<Expr>) -> Result<Expr, NoMemory>
+pub fn repeat(alloc: Global, count: Held<Expr>, list: Items<Expr>) -> Result<Held<Expr>, NoMemory>
     ensures { IfOk result (λ e. e ≡ Expr.Rep count list) }
 {
-    Ok(Expr::Rep(Boxed::new(alloc, count)?, list))
+    Ok(Held::new(Expr::Rep(Boxed::new(alloc, count.into_inner())?, list)))
 }
 
-pub fn part_select(alloc: Global, divider: Divider, x: Expr, y: Expr) -> Result<Select, NoMemory>
+pub fn part_select(alloc: Global, divider: Divider, x: Held<Expr>, y: Held<Expr>) -> Result<Select, NoMemory>
     ensures { IfOk result (λ s. s ≡ trees.part_select divider x y) }
 {
-    let x = Boxed::new(alloc, x)?;
-    let y = Boxed::new(alloc, y)?;
+    let (x, y) = pair(alloc, x.into_inner(), y.into_inner())?;
     match divider {
         Divider::Colon => Ok(Select::Part(x, y)),
         Divider::Up => Ok(Select::Up(x, y)),

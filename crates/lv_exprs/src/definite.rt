@@ -35,6 +35,7 @@ pub fn read_definite(
     if !has_free_bits(&tree) {
         return Ok((tree, end));
     }
+    drop(tree);
     if end - from == 1 {
         return Err(SyntaxError::Syntax(from));
     }

@@ -1,5 +1,6 @@
 use crate::symbol::{Divider, Number, Sign};
 use lv_ast::{Expr, Literal, Path, PathStep, Select};
+use lv_held::Held;
 use sqlite_items::Items;
 
 /// An operand, as far as it matters what may follow it.
@@ -12,7 +13,7 @@ pub enum Content {
     /// A name and one number in brackets: a step of a path, if a dot follows.
     Element(Path, Number),
     /// Anything else.
-    Tree(Expr),
+    Tree(Held<Expr>),
 }
 
 /// An operand, and how far below the root it reaches.
@@ -26,15 +27,15 @@ pub struct Operand {
 #[derive(Drop)]
 pub enum Frame {
     Prefix(Sign),
-    Left(Sign, Expr, u32),
-    Question(Expr, u32),
-    Colon(Expr, Expr, u32),
+    Left(Sign, Held<Expr>, u32),
+    Question(Held<Expr>, u32),
+    Colon(Held<Expr>, Held<Expr>, u32),
     Paren,
     Cast(bool),
     Brace(Items<Expr>, u32),
-    Repeat(Expr, Items<Expr>, u32),
+    Repeat(Held<Expr>, Items<Expr>, u32),
     Index(Path, Items<Select>, u32),
-    Part(Divider, Path, Items<Select>, Expr, u32),
+    Part(Divider, Path, Items<Select>, Held<Expr>, u32),
 }
 
 /// Where reading stands, above what is open.
@@ -46,7 +47,7 @@ pub enum Standing {
     /// After `$signed` or `$unsigned`.
     Cast(bool),
     /// After the inner brace of a replication.
-    Shut(Expr, Items<Expr>, u32),
+    Shut(Held<Expr>, Items<Expr>, u32),
     /// After the dot of a path.
     Dotted(Items<PathStep>, u64),
 }

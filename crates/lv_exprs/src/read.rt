@@ -22,10 +22,11 @@ fn done(alloc: Global, x: Operand, at: usize) -> Result<(Expr, usize), SyntaxErr
 {
     let Operand { content, reach } = x;
     if LIMIT < reach {
+        drop(content);
         return Err(SyntaxError::Depth(at));
     }
     let tree = into_tree(alloc, content)?;
-    Ok((tree, at))
+    Ok((tree.into_inner(), at))
 }
 
 /// The limit while reading: with paths a dot may still take one away.
@@ -63,6 +64,7 @@ pub fn read(
             Step::Bad => return Err(SyntaxError::Syntax(at)),
         }
         if is_high(&stack, &standing, limit) {
+            drop(standing);
             return Err(SyntaxError::Depth(at));
         }
         at += 1;

@@ -11,10 +11,11 @@ use crate::stack::Stack;
 use crate::symbol::{Based, Divider, Name, Number, Sign, Symbol};
 use lv_ast::{Expr, Literal, Path, PathStep, Select};
 use lv_bits::NoMemory;
+use lv_held::Held;
 use sqlite_items::Items;
 use std::alloc::Global;
 
-fn whole_operand(tree: Expr, reach: u32) -> Operand
+fn whole_operand(tree: Held<Expr>, reach: u32) -> Operand
     ensures { result ≡ step.whole_operand tree reach }
 {
     Operand {
@@ -34,7 +35,7 @@ fn close_prefix(alloc: Global, sign: Sign, x: Operand) -> Result<Operand, NoMemo
 fn close_left(
     alloc: Global,
     sign: Sign,
-    left: Expr,
+    left: Held<Expr>,
     low: u32,
     x: Operand,
 ) -> Result<Operand, NoMemory>
@@ -46,7 +47,7 @@ fn close_left(
     Ok(whole_operand(tree, low.max(reach)))
 }
 
-fn close_colon(alloc: Global, c: Expr, y: Expr, low: u32, x: Operand) -> Result<Operand, NoMemory>
+fn close_colon(alloc: Global, c: Held<Expr>, y: Held<Expr>, low: u32, x: Operand) -> Result<Operand, NoMemory>
     ensures { IfOk result (λ r. r ≡ step.close (Frame.Colon c y low) x) }
 {
     let Operand { content, reach } = x;
@@ -56,7 +57,7 @@ fn close_colon(alloc: Global, c: Expr, y: Expr, low: u32, x: Operand) -> Result<
 }
 
 /// Lets the frame go.
-fn unclosed(_frame: Frame, x: Operand) -> Operand
+fn unclosed<T: Drop>(_frame: T, x: Operand) -> Operand
     ensures { result ≡ x }
 {
     x
@@ -96,7 +97,7 @@ fn lowered(alloc: Global, stack: &mut Stack, x: Operand, pull: u8) -> Result<Ope
 }
 
 /// Lets the parts go.
-fn bad(_frame: Frame, _x: Operand) -> Step
+fn bad<T: Drop, U: Drop>(_frame: T, _x: U) -> Step
     ensures { result ≡ Step.Bad }
 {
     Step::Bad
@@ -114,7 +115,7 @@ fn is_none<T>(items: &Items<T>) -> bool
 fn end_question(
     alloc: Global,
     stack: &mut Stack,
-    c: Expr,
+    c: Held<Expr>,
     low: u32,
     x: Operand,
     symbol: Symbol,
@@ -171,7 +172,7 @@ fn listed(alloc: Global, mut list: Items<Expr>, content: Content) -> Result<Item
     ensures { IfOk result (λ r. r ≡ list ++ (step.tree_of content ∷ [])) }
 {
     let tree = into_tree(alloc, content)?;
-    list.push(tree)?;
+    list.push(tree.into_inner())?;
     Ok(list)
 }
 
@@ -217,7 +218,7 @@ fn end_brace(
         Symbol::RightBrace => {
             let Operand { content, reach } = x;
             let list = listed(alloc, list, content)?;
-            Ok(Step::Next(Standing::Have(whole_operand(Expr::Cat(list), low.max(reach)))))
+            Ok(Step::Next(Standing::Have(whole_operand(Held::new(Expr::Cat(list)), low.max(reach)))))
         }
         Symbol::LeftBrace => begin_repeat(alloc, stack, list, low, x),
         _ => Ok(bad(Frame::Brace(list, low), x)),
@@ -227,7 +228,7 @@ fn end_brace(
 fn end_repeat(
     alloc: Global,
     stack: &mut Stack,
-    count: Expr,
+    count: Held<Expr>,
     list: Items<Expr>,
     low: u32,
     x: Operand,
@@ -271,7 +272,7 @@ fn indexed_by_number(
     if is_none(&selects) {
         Ok(Content::Element(path, number))
     } else {
-        let select = select_one(alloc, Expr::Lit(plain_literal(number)))?;
+        let select = select_one(alloc, Held::new(Expr::Lit(plain_literal(number))))?;
         named_select(path, selects, select)
     }
 }
@@ -329,7 +330,7 @@ fn end_index(
 fn end_part(
     alloc: Global,
     stack: &Stack,
-    part: (Divider, Path, Items<Select>, Expr, u32),
+    part: (Divider, Path, Items<Select>, Held<Expr>, u32),
     x: Operand,
     symbol: Symbol,
 ) -> Result<Step, NoMemory>
@@ -497,7 +498,7 @@ fn dot(alloc: Global, stack: &mut Stack, x: Operand) -> Result<Step, NoMemory>
 }
 
 /// Lets the number go.
-fn whole(_x: Operand, literal: Literal) -> Step
+fn whole<T: Drop>(_x: T, literal: Literal) -> Step
     ensures { result ≡ Step.Whole literal }
 {
     Step::Whole(literal)
@@ -542,7 +543,7 @@ fn sized(
         };
         free_literal(alloc, stack, x, literal, based)
     } else {
-        Ok(Step::Next(Standing::Have(whole_operand(Expr::Lit(literal), reach))))
+        Ok(Step::Next(Standing::Have(whole_operand(Held::new(Expr::Lit(literal)), reach))))
     }
 }
 
@@ -623,7 +624,7 @@ fn based_operand(stack: &Stack, based: Based) -> Step
             Step::Bad
         }
     } else {
-        Step::Next(Standing::Have(whole_operand(Expr::Lit(literal), stack.depth + 1)))
+        Step::Next(Standing::Have(whole_operand(Held::new(Expr::Lit(literal)), stack.depth + 1)))
     }
 }
 
@@ -666,7 +667,7 @@ fn cast_open(stack: &mut Stack, signed: bool, symbol: Symbol) -> Result<Step, No
 }
 
 /// Lets the parts of a replication go.
-fn bad_repeat(_count: Expr, _list: Items<Expr>) -> Step
+fn bad_repeat<T: Drop, U: Drop>(_count: T, _list: U) -> Step
     ensures { result ≡ Step.Bad }
 {
     Step::Bad
@@ -675,7 +676,7 @@ fn bad_repeat(_count: Expr, _list: Items<Expr>) -> Step
 fn shut(
     alloc: Global,
     stack: &Stack,
-    count: Expr,
+    count: Held<Expr>,
     list: Items<Expr>,
     reach: u32,
     symbol: Symbol,
@@ -741,10 +742,15 @@ pub fn take(
 fn alone(stack: &Stack, x: Operand) -> Option<Operand>
     ensures { result ≡ step.alone (stack.now.frames.items, x) }
 {
-    if stack.is_empty() { Some(x) } else { None }
+    if stack.is_empty() {
+        Some(x)
+    } else {
+        drop(x);
+        None
+    }
 }
 
-fn unfinished(_standing: Standing) -> Option<Operand>
+fn unfinished<T: Drop>(_standing: T) -> Option<Operand>
     ensures { result ≡ None }
 {
     None

@@ -8,6 +8,7 @@ use crate::exprs::value;
 use crate::tokens::{ident, is_mark, mark, place, push};
 use lv_ast::{Conn, Expr, Inst, Item, Tokens};
 use lv_exprs::SyntaxError;
+use lv_held::Held;
 use sqlite_items::Items;
 use std::alloc::Global;
 
@@ -30,7 +31,7 @@ fn conn_value(
     alloc: Global,
     tokens: &Tokens,
     at: usize,
-) -> Result<(Option<Expr>, usize), SyntaxError>
+) -> Result<(Option<Held<Expr>>, usize), SyntaxError>
     requires { at ≤ length tokens.now.list }
     ensures answer { Answers tokens.now.text tokens.now.list rules.conn_end at result }
     ensures ahead { IfOk result (λ r. GoesOn tokens.now.list at r) }

@@ -6,10 +6,11 @@ ghost use Rattle.lv_parser.specs.Shapes as shapes;
 ghost use Rattle.lv_parser.specs.Rules as rules;
 ghost use Rattle.lv_parser.specs.Answers.{Answers, placed_result, GoesOn, Stays};
 
-use crate::tokens::{boxed, ident, is_mark, mark, push};
+use crate::tokens::{boxed, held, ident, is_mark, mark, push, unheld};
 use lv_ast::{Expr, Path, Range, Select, Tokens};
 use lv_bits::NoMemory;
 use lv_exprs::{SyntaxError, read_definite, read_expr};
+use lv_held::Held;
 use sqlite_items::Items;
 use std::alloc::Global;
 
@@ -17,19 +18,23 @@ use std::alloc::Global;
 #[derive(Drop)]
 pub enum Span {
     Bit,
-    Part(Expr),
-    Up(Expr),
-    Down(Expr),
+    Part(Held<Expr>),
+    Up(Held<Expr>),
+    Down(Held<Expr>),
 }
 
 /// An expression that is no literal with free bits.
-pub fn value(alloc: Global, tokens: &Tokens, at: usize) -> Result<(Expr, usize), SyntaxError>
+pub fn value(
+    alloc: Global,
+    tokens: &Tokens,
+    at: usize,
+) -> Result<(Held<Expr>, usize), SyntaxError>
     requires { at ≤ length tokens.now.list }
     ensures answer { Answers tokens.now.text tokens.now.list rules.value at result }
     ensures placed { Answers tokens.now.text tokens.now.list (rules.expr shapes.value) at (placed_result tokens.now.text tokens.now.list at result) }
     ensures ahead { IfOk result (λ r. GoesOn tokens.now.list at r) }
 {
-    read_definite(alloc, tokens, at)
+    held(read_definite(alloc, tokens, at))
 }
 
 /// A label of a `casez`, where it is one, or of a `case`.
@@ -46,7 +51,7 @@ pub fn label(
     if wild {
         read_expr(alloc, tokens, at, false)
     } else {
-        value(alloc, tokens, at)
+        unheld(value(alloc, tokens, at))
     }
 }
 
@@ -87,7 +92,7 @@ fn bound(
     tokens: &Tokens,
     at: usize,
     bytes: &[u8],
-) -> Result<(Expr, usize), SyntaxError>
+) -> Result<(Held<Expr>, usize), SyntaxError>
     requires { at ≤ length tokens.now.list }
     ensures answer { Answers tokens.now.text tokens.now.list (rules.bound bytes.now) at result }
     ensures ahead { IfOk result (λ r. GoesOn tokens.now.list at r) }
@@ -118,15 +123,15 @@ fn span_behind(alloc: Global, tokens: &Tokens, at: usize) -> Result<(Span, usize
     }
 }
 
-fn select_of(alloc: Global, left: Expr, span: Span) -> Result<Select, NoMemory>
+fn select_of(alloc: Global, left: Held<Expr>, span: Span) -> Result<Select, NoMemory>
     ensures { IfOk result (λ s. s ≡ rules.select_by left span) }
 {
-    let left = boxed(alloc, left)?;
+    let left = boxed(alloc, left.into_inner())?;
     match span {
         Span::Bit => Ok(Select::Bit(left)),
-        Span::Part(right) => Ok(Select::Part(left, boxed(alloc, right)?)),
-        Span::Up(right) => Ok(Select::Up(left, boxed(alloc, right)?)),
-        Span::Down(right) => Ok(Select::Down(left, boxed(alloc, right)?)),
+        Span::Part(right) => Ok(Select::Part(left, boxed(alloc, right.into_inner())?)),
+        Span::Up(right) => Ok(Select::Up(left, boxed(alloc, right.into_inner())?)),
+        Span::Down(right) => Ok(Select::Down(left, boxed(alloc, right.into_inner())?)),
     }
 }
 

@@ -80,11 +80,7 @@ fn add_setting(
             new_params(alloc, header, setting)
         }
         None => {
-            let Params {
-                signed,
-                range,
-                mut list,
-            } = last;
+            let (signed, range, mut list) = last.into_parts();
             push(&mut list, setting)?;
             Ok(Params {
                 signed,
@@ -178,13 +174,7 @@ fn add_port(
             new_port(alloc, header, name)
         }
         None => {
-            let Aport {
-                output,
-                word,
-                signed,
-                range,
-                mut names,
-            } = last;
+            let (((output, word), (signed, range)), mut names) = last.into_parts();
             push(&mut names, name)?;
             Ok(Aport {
                 output,

@@ -14,6 +14,7 @@ use crate::tokens::{boxed, ident, is_mark, is_word, mark, place, push, word};
 use lv_ast::{Arm, Expr, Ident, Stmt, Tokens};
 use lv_bits::NoMemory;
 use lv_exprs::SyntaxError;
+use lv_held::Held;
 use sqlite_items::Items;
 use std::alloc::Global;
 
@@ -21,17 +22,17 @@ use std::alloc::Global;
 #[derive(Drop)]
 pub struct Head {
     pub index: Ident,
-    pub start: Expr,
-    pub test: Expr,
+    pub start: Held<Expr>,
+    pub test: Held<Expr>,
     pub again: Ident,
-    pub next: Expr,
+    pub next: Held<Expr>,
 }
 
 fn begins_loop(
     alloc: Global,
     tokens: &Tokens,
     at: usize,
-) -> Result<((Ident, Expr, Expr), usize), SyntaxError>
+) -> Result<((Ident, Held<Expr>, Held<Expr>), usize), SyntaxError>
     requires { at ≤ length tokens.now.list }
     ensures answer { Answers tokens.now.text tokens.now.list rules.loop_start at result }
     ensures ahead { IfOk result (λ r. GoesOn tokens.now.list at r) }
@@ -158,7 +159,7 @@ fn branches(
     }
 }
 
-fn choice_of(alloc: Global, test: Expr, then: Stmt, other: Option<Stmt>) -> Result<Stmt, NoMemory>
+fn choice_of(alloc: Global, test: Held<Expr>, then: Stmt, other: Option<Stmt>) -> Result<Stmt, NoMemory>
     ensures { IfOk result (λ s. s ≡ stmt.If test then other) }
 {
     let then = boxed(alloc, then)?;

@@ -11,6 +11,7 @@ ghost use Rattle.lv_parser.specs.Answers.{from, Answers, token_result, GoesOn};
 use lv_ast::{Ident, Kind, Token, Tokens};
 use lv_bits::{NoMemory, Text};
 use lv_exprs::SyntaxError;
+use lv_held::Held;
 use sqlite_items::{Boxed, Items};
 use std::alloc::Global;
 
@@ -167,4 +168,24 @@ pub fn boxed<T: Drop>(alloc: Global, item: T) -> Result<Boxed<T>, NoMemory>
     ensures { IfOk result (λ b. b ≡ item) }
 {
     Ok(Boxed::new(alloc, item)?)
+}
+
+/// What is read, held.
+pub fn held<T>(read: Result<(T, usize), SyntaxError>) -> Result<(Held<T>, usize), SyntaxError>
+    ensures { result ≡ read }
+{
+    match read {
+        Ok((tree, end)) => Ok((Held::new(tree), end)),
+        Err(error) => Err(error),
+    }
+}
+
+/// What is read, as it is.
+pub fn unheld<T>(read: Result<(Held<T>, usize), SyntaxError>) -> Result<(T, usize), SyntaxError>
+    ensures { result ≡ read }
+{
+    match read {
+        Ok((tree, end)) => Ok((tree.into_inner(), end)),
+        Err(error) => Err(error),
+    }
 }

@@ -130,7 +130,7 @@ unfolding read_expr read_select pieces executes turns turns_from flow labels as_
 own_left = refl
 
 -- read by another part
-own_is_read : map (λ r. r.1) (refused (own_variable (assign (to (codes "z")) (chosen (codes "u") (bit (plain 0) ∷ [])) 120 ∷ []))) ≡ 80 ∷ 100 ∷ []
+own_is_read : map (λ r. r.1) (refused (own_variable (assign (to (codes "z")) (chosen (codes "u") (bit (plain 0) ∷ [])) 120 ∷ []))) ≡ 80 ∷ 0 ∷ 100 ∷ 0 ∷ []
 unfolding read_expr read_select pieces executes turns turns_from flow labels as_target walk walk_select target_sites standing digits
 own_is_read = refl
 

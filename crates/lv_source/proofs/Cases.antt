@@ -1,5 +1,5 @@
 -- A `case` takes the same arm in both, and one of its arms where its labels are full.
-use Rattle.std.proofs.Common.{◌≡◌, inl, inr, ℕ, zero, suc, ◌+◌, ◌^◌, ◌<◌, ◌≤◌, Bool, true, false, ◌&&◌, ◌||◌, ◌==◌, List, [], ◌∷◌, ◌++◌, refl, sym, ap, ◌∙◌, subst, arith}
+use Rattle.std.proofs.Common.{◌≡◌, inl, inr, ℕ, zero, suc, ◌+◌, ◌^◌, ◌<◌, ◌≤◌, Bool, true, false, ◌&&◌, ◌||◌, ◌==◌, List, [], ◌∷◌, ◌++◌, map, refl, sym, ap, ◌∙◌, subst, arith}
 use Rattle.std.specs.Prelude.{flat_map, if◌then◌else◌, nat_le, bit_or}
 use Rattle.std.specs.List.{list_any, list_all, range_with_len}
 use Rattle.lv_bits.specs.Values.{extended}
@@ -8,10 +8,11 @@ use Rattle.lv_ast.specs.Names.{Names, Valuation}
 use Rattle.lv_ast.specs.Values.{nowhere, own_value}
 use Rattle.lv_ast.specs.Places.{Bit, has_bit}
 use Rattle.lv_ast.specs.Meaning.{read_expr, meaning}
-use Rattle.lv_ast.specs.Effect.{State, Effect, ArmOf, arm_taken, is_default, all_labels, Width, common, is_match, free_bits}
+use Rattle.lv_ast.specs.Effect.{State, Effect, ArmOf, is_default, all_labels, Label, Width, common, is_match, free_bits, fits_label, label_of}
 use Rattle.lv_source.specs.Flow.{Event, Flows, is_full, is_extended}
+use Rattle.lv_source.proofs.CaseTrees.{arm_taken, all-map}
 use Rattle.lv_source.proofs.Each.{Each, Some', Pairs, each-left, each-right, each-join, some-left, some-right, some-split}
-use Rattle.lv_source.proofs.Tests.{or-none_left, or-none_right, and-left, and-right}
+use Rattle.lv_source.proofs.Tests.{or-none_left, or-none_right, and-left, and-right, any-map}
 use Rattle.lv_source.proofs.Faithful.{Same, same-left, same-right, Equal}
 use Rattle.lv_source.proofs.Readings.{faithful}
 use Rattle.lv_source.proofs.Fits.{fits, extends, own_fits, at_own}
@@ -103,8 +104,8 @@ full_fits names wild x ls v h =
     let c : Width = common names x ls in
     let e : Bool = is_extended x in
     let w : ℕ = tested names x c e in
-    let fixed : Bool = list_all (λ l. (read_expr names l).constant) ls in
-    let p : ℕ → Bool = λ y. list_any (is_match names nowhere wild c (extended c.signed w c.width y)) ls in
+    let fixed : Bool = list_all (λ (l : Label). l.reading.constant) (map (label_of names) ls) in
+    let p : ℕ → Bool = λ y. list_any (fits_label nowhere wild c (extended c.signed w c.width y)) (map (label_of names) ls) in
     let n : ℕ = if nat_le w 8 then 2 ^ w else 0 in
     let most : nat_le w 8 ≡ true = and-left (nat_le w 8) fixed (and-left (nat_le w 8 && fixed) (list_all p (range_with_len 0 n)) h) in
     let constant : fixed ≡ true = and-right (nat_le w 8) fixed (and-left (nat_le w 8 && fixed) (list_all p (range_with_len 0 n)) h) in
@@ -115,7 +116,8 @@ full_fits names wild x ls v h =
     let z : 0 + y ≡ y = omega arith in
     let found : p y ≡ true = ap p (sym z) ∙ all-range p 0 n y (subst (λ (m : ℕ). y < m) (sym count) below) all in
     any_match_equal names v nowhere wild c (selected names x c v) (extended c.signed w c.width y) ls
-    (sym (number_is names x c v e refl (signed_selector names x ls))) (fixed_labels names v nowhere ls constant) ∙ found
+    (sym (number_is names x c v e refl (signed_selector names x ls))) (fixed_labels names v nowhere ls (all-map (λ (l : Label). l.reading.constant) (label_of names) ls ∙ constant)) ∙
+    (any-map (fits_label nowhere wild c (extended c.signed w c.width y)) (label_of names) ls ∙ found)
 
 -- ---- arms
 

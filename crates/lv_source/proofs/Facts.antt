@@ -30,7 +30,7 @@ numbered_none f [] j h k x e = cc
 numbered_none f (y ∷ ys) j h zero x e = (j, ap (λ z. f (j, z)) (sym (some_same y x e)) ∙ append-none_left (f (j, y)) (flat_map f (numbered_from (suc j) ys)) h)
 numbered_none f (y ∷ ys) j h (suc k) x e = numbered_none f ys (suc j) (append-none_right (f (j, y)) (flat_map f (numbered_from (suc j) ys)) h) k x e
 
-numbered_at : {A B : Type 0} (f : ℕ × A → List B) (xs : List A) (j : ℕ) → flat_map f (numbered_from j xs) ≡ [] → (k : ℕ) (x : A) → slice_get xs k ≡ Some x → f (j + k, x) ≡ []
+pub numbered_at : {A B : Type 0} (f : ℕ × A → List B) (xs : List A) (j : ℕ) → flat_map f (numbered_from j xs) ≡ [] → (k : ℕ) (x : A) → slice_get xs k ≡ Some x → f (j + k, x) ≡ []
 numbered_at f [] j h k x e = cc
 numbered_at f (y ∷ ys) j h zero x e =
     let z : j + 0 ≡ j = omega arith in
@@ -43,9 +43,13 @@ told_none : (b : Bool) (a : At) (ats : List At) → r.told_if b (a ∷ ats) ≡ 
 told_none true a ats h = cc
 told_none false a ats h = refl
 
-mapped_none : {A B : Type 0} (f : A → B) (q : A → Bool) (xs : List A) → map f (filter q xs) ≡ [] → list_any q xs ≡ false
-mapped_none f q [] h = refl
-mapped_none f q (x ∷ xs) h = elim (q x) as (λ c. map f (cond c (x ∷ filter q xs) (filter q xs)) ≡ [] → (c || list_any q xs) ≡ false) [ true ↦ λ k. cc | false ↦ λ k. mapped_none f q xs k ] h
+-- where each element gives something
+filtered_none : {A B : Type 0} (f : A → List B) (q : A → Bool) (xs : List A) → ((x : A) → f x ≡ [] → ⊥) → flat_map f (filter q xs) ≡ [] → list_any q xs ≡ false
+filtered_none f q [] n h = refl
+filtered_none f q (x ∷ xs) n h = elim (q x) as (λ c. flat_map f (cond c (x ∷ filter q xs) (filter q xs)) ≡ [] → (c || list_any q xs) ≡ false) [
+  | true ↦ λ k. absurd (n x (append-none_left (f x) (flat_map f (filter q xs)) k))
+  | false ↦ λ k. filtered_none f q xs n k
+] h
 
 -- ---- elements
 
@@ -146,7 +150,7 @@ module _ (d : Design) (legal : IsLegal d) (k : ℕ) (p : Part) (e : slice_get (p
 
   pub no_nonblocking : list_any (λ x. is_comb p && not x.at_once) (r.events p) ≡ false
   no_nonblocking =
-      mapped_none (λ (x : Event). r.at_place p x.place) (λ x. is_comb p && not x.at_once) (r.events p)
+      filtered_none (r.event_places p) (λ (x : Event). is_comb p && not x.at_once) (r.events p) (λ x h. cc)
       (numbered_none (λ kp. r.nonblocking kp.1) (parts d) 0 (legal.nothing Nonblocking) k p e).1
 
   pub no_unfixed : r.is_unfixed p ≡ false

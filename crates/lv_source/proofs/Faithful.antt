@@ -46,7 +46,7 @@ pub unary_equal : (v w : Valuation) (op : Op) (a : Meaning) (k : Bool) → Equal
     (if k then (let m : Meaning = record { width = a.width; signed = a.signed; value = λ W T v. unary_value op W (a.value W T v) } in m) else one_bit (λ v. unary_value op a.width (own_value a v))).value W T v ≡
     (if k then (let m : Meaning = record { width = a.width; signed = a.signed; value = λ W T v. unary_value op W (a.value W T v) } in m) else one_bit (λ v. unary_value op a.width (own_value a v))).value W T w
 unary_equal v w op a true h W T = ap (λ x. unary_value op W x) (h W T)
-unary_equal v w op a false h W T = ap (λ x. unary_value op a.width x) (h a.width a.signed)
+unary_equal v w op a false h W T = ap (λ x. extended T 1 W (unary_value op a.width x)) (h a.width a.signed)
 
 two_equal : (f : ℕ → ℕ → ℕ) (x y x' y' : ℕ) → x ≡ x' → y ≡ y' → f x y ≡ f x' y'
 two_equal f x y x' y' h k = ap (λ z. f z y) h ∙ ap (λ z. f x' z) k
@@ -56,9 +56,9 @@ pub binary_equal : (v w : Valuation) (op : Op) (a b : Meaning) (k j : Bool) → 
     (if k then (if j then shift op a b else arithmetic op a b) else (if j then logical op a b else compared op a b)).value W T w
 binary_equal v w op a b true true h i W T = two_equal (binary_value op T W) _ _ _ _ (h W T) (i b.width b.signed)
 binary_equal v w op a b true false h i W T = two_equal (binary_value op T W) _ _ _ _ (h W T) (i W T)
-binary_equal v w op a b false true h i W T = two_equal (binary_value op false a.width) _ _ _ _ (h a.width a.signed) (i b.width b.signed)
+binary_equal v w op a b false true h i W T = two_equal (λ x y. extended T 1 W (binary_value op false a.width x y)) _ _ _ _ (h a.width a.signed) (i b.width b.signed)
 binary_equal v w op a b false false h i W T =
-    two_equal (binary_value op (a.signed && b.signed) (max a.width b.width)) _ _ _ _ (h (max a.width b.width) (a.signed && b.signed)) (i (max a.width b.width) (a.signed && b.signed))
+    two_equal (λ x y. extended T 1 W (binary_value op (a.signed && b.signed) (max a.width b.width) x y)) _ _ _ _ (h (max a.width b.width) (a.signed && b.signed)) (i (max a.width b.width) (a.signed && b.signed))
 
 pub divided_equal : (v w : Valuation) (f : Bool → ℕ → ℕ → ℕ → ℕ) (a b : Meaning) → Equal v w a → Equal v w b → Equal v w (divided f a b)
 divided_equal v w f a b h i W T = two_equal (f T W) _ _ _ _ (h W T) (i W T)
@@ -74,7 +74,7 @@ joined_equal v w [] h = refl
 joined_equal v w (m ∷ ms) h = two_equal (λ x y. x * 2 ^ widths ms + y) _ _ _ _ (h.0 m.width m.signed) (joined_equal v w ms h.1)
 
 pub replicated_equal : (v w : Valuation) (n : Meaning) (ms : List Meaning) → Each (Equal v w) ms → Equal v w (replicated n ms)
-replicated_equal v w n ms h W T = ap (repeated (own_value n nowhere) (widths ms)) (joined_equal v w ms h)
+replicated_equal v w n ms h W T = ap (λ x. extended T (own_value n nowhere * widths ms) W (repeated (own_value n nowhere) (widths ms) x)) (joined_equal v w ms h)
 
 pub plain_equal : (v w : Valuation) (n : ℕ) (signed : Bool) (f : Valuation → ℕ) → f v ≡ f w → Equal v w (plain n signed f)
 plain_equal v w n signed f h W T = ap (λ x. extended T n W x) h

@@ -109,7 +109,7 @@ plain_fits : (w : ℕ) (signed : Bool) (f : Valuation → ℕ) → ((v : Valuati
 plain_fits w signed f h = record { fits = λ W T v k. extended_lt T w W (f v) k (h v) }
 
 bit_fits : (f : Valuation → ℕ) → ((v : Valuation) → f v < 2) → Fits (one_bit f)
-bit_fits f h = record { fits = λ W T v k. (let e : 2 ^ 1 ≤ 2 ^ W = pow_le 1 W k in let x : f v < 2 = h v in omega arith) }
+bit_fits f h = plain_fits 1 false f (λ v. (let x : f v < 2 = h v in omega arith))
 
 pub own_fits : (m : Meaning) → Fits m → (v : Valuation) → own_value m v < 2 ^ m.width
 own_fits m h v = h.fits m.width m.signed v (let e : m.width ≤ m.width = omega arith in e)
@@ -244,13 +244,11 @@ node_fits names (Expr-F.Bin op a b) h = binary_fits op a.meaning b.meaning h.0 h
 node_fits names (Expr-F.Div a b) h = record { fits = λ W T v k. quotient_lt T W (a.meaning.value W T v) (b.meaning.value W T v) (h.0.fits W T v (omega arith)) }
 node_fits names (Expr-F.Rem a b) h = record { fits = λ W T v k. remainder_lt T W (a.meaning.value W T v) (b.meaning.value W T v) (h.0.fits W T v (omega arith)) }
 node_fits names (Expr-F.Cond c a b) h = chosen_fits c.meaning a.meaning b.meaning h.1 h.2
-node_fits names (Expr-F.Cat rs) h = record { fits = λ W T v k. at_more (joined v (meanings rs)) (widths (meanings rs)) W (joined_lt (meanings rs) (meanings_fit rs h) v) k }
+node_fits names (Expr-F.Cat rs) h = plain_fits (widths (meanings rs)) false (λ v. joined v (meanings rs)) (λ v. joined_lt (meanings rs) (meanings_fit rs h) v)
 node_fits names (Expr-F.Rep n rs) h =
     let count : ℕ = own_value n.meaning nowhere in
-    record {
-      fits = λ W T v k. at_more (repeated count (widths (meanings rs)) (joined v (meanings rs))) (count * widths (meanings rs)) W
-          (repeated_lt count (widths (meanings rs)) (joined v (meanings rs)) (joined_lt (meanings rs) (meanings_fit rs h.1) v)) k;
-    }
+    plain_fits (count * widths (meanings rs)) false (λ v. repeated count (widths (meanings rs)) (joined v (meanings rs)))
+    (λ v. repeated_lt count (widths (meanings rs)) (joined v (meanings rs)) (joined_lt (meanings rs) (meanings_fit rs h.1) v))
 node_fits names (Expr-F.Cast signed a) h = plain_fits a.meaning.width signed (own_value a.meaning) (own_fits a.meaning h)
 
 pub fits : (names : Names) (e : Expr) → Fits (read_expr names e).meaning
@@ -273,7 +271,7 @@ unsigned_extends w W x true h = absurd (let e : false ≡ true = h refl in cc)
 unsigned_extends w W x false h = refl
 
 bit_extends : (f : Valuation → ℕ) → Extends (one_bit f)
-bit_extends f = record { extends = λ W T v k. unsigned_extends 1 W (f v) T k }
+bit_extends f = plain_extends 1 false f
 
 unary_extends : (op : Op) (a : Meaning) (k : Bool) → not k ≡ true →
     Extends (if k then (let m : Meaning = record { width = a.width; signed = a.signed; value = λ W T v. unary_value op W (a.value W T v) } in m) else one_bit (λ v. unary_value op a.width (own_value a v)))
@@ -291,8 +289,8 @@ pub extends : (names : Names) (e : Expr) → is_extended e ≡ true → Extends 
 unfolding read_expr
 extends names (x.Lit l) h = plain_extends (size_of l.size) l.signed (λ v. l.value % 2 ^ size_of l.size)
 extends names (x.Name' path n ss) h = plain_extends _ _ _
-extends names (x.Cat' n es) h = record { extends = λ W T v k. unsigned_extends _ W _ T k }
-extends names (x.Rep' n a m es) h = record { extends = λ W T v k. unsigned_extends _ W _ T k }
+extends names (x.Cat' n es) h = plain_extends _ _ _
+extends names (x.Rep' n a m es) h = plain_extends _ _ _
 extends names (x.Cast' signed n a) h = plain_extends _ _ _
 extends names (x.Un' op n a) h = unary_extends op (fold_one Reading Choice (read_step names) choice a).meaning (keeps_width op) h
 extends names (x.Bin' op n a m b) h = binary_extends op (fold_one Reading Choice (read_step names) choice a).meaning (fold_one Reading Choice (read_step names) choice b).meaning (keeps_width op) (is_apart op) h

@@ -12,8 +12,9 @@ use Rattle.lv_ast.specs.Names.{Names, Valuation}
 use Rattle.lv_ast.specs.Values.{nowhere}
 use Rattle.lv_ast.specs.Places.{Bit, has_bit}
 use Rattle.lv_ast.specs.Meaning.{Reading, read_expr, meaning, constant_value}
-use Rattle.lv_ast.specs.Effect.{State, Effect, ArmOf, Piece, pieces, effect_step, arm_step, executes, in_order, each_turn, otherwise, is_set, arm_taken, is_default, all_labels, common, is_match, unchanged, case_effect, with_index, turns}
+use Rattle.lv_ast.specs.Effect.{State, Effect, ArmOf, Piece, pieces, effect_step, arm_step, executes, in_order, each_turn, otherwise, is_set, is_default, all_labels, common, is_match, case_effect, with_index, turns}
 use Rattle.lv_source.specs.Flow.{Event, event_surely, Flow, Flows, one, all_flows, branches, flow_or, flow_step, flow, no_match, is_full, case_flow}
+use Rattle.lv_source.proofs.CaseTrees.{arm_taken, unchanged, TreeCase, TreeFlow, case_is, flow_is}
 use Rattle.lv_source.proofs.Each.{Each, Pairs, each-left, each-right, each-join, some-left}
 use Rattle.lv_source.proofs.Each.{Some' as Somewhere}
 use Rattle.lv_source.proofs.Tests.{or-split, decide}
@@ -129,6 +130,15 @@ start_ends A s t same true f h k = cc
 start_ends A s t same false true h k = cc
 start_ends A s t same false false h k = (inl same, refl, refl)
 
+-- of an equal effect
+runs_same : (g h : State → State) (f : Flow) → ((s : State) → g s ≡ h s) → Runs h f → Runs g f
+runs_same g h f e r = record {
+  some = r.some;
+  inside = r.inside;
+  run = λ A s t same cs.
+      subst (λ (s' : State). Outcome A f.paths s t s' (g t)) (sym (e s)) (subst (λ (t' : State). Outcome A f.paths s t (h s) t') (sym (e t)) (r.run A s t same cs));
+}
+
 not_both : (b : Bool) → b ≡ true → b ≡ false → ⊥
 not_both b h k = cc
 
@@ -174,7 +184,7 @@ module _ (wild : Bool) (x : Expr) (es : List (ArmOf Effect)) (bs : List (ArmOf F
   case_some = case_some_by es bs h
 
   case_run : (A : Bit → Bool) (s t : State) → Same A s.valuation t.valuation → ReadsIn A seen → Each (Covered A) arms.paths →
-      Outcome A arms.paths s t (case_effect wild x es names s) (case_effect wild x es names t)
+      Outcome A arms.paths s t (TreeCase wild x es names s) (TreeCase wild x es names t)
   case_run A s t same reads cs =
       let v : Valuation = s.valuation in
       let w : Valuation = t.valuation in
@@ -190,10 +200,15 @@ module _ (wild : Bool) (x : Expr) (es : List (ArmOf Effect)) (bs : List (ArmOf F
       (λ d n. start_ends A s t same default full d (elim (decide full) [ inl k ↦ absurd (not_both _ (full_fits names wild x labels v k) n) | inr k ↦ k ])) cs in
       subst (λ (ls : List Expr). Outcome A arms.paths s t (arm_taken (fitting ls v) es unchanged names s) (arm_taken (fitting ls w) es unchanged names t)) (sym (labels_equal es bs h)) out
 
+  tree_runs : Runs (TreeCase wild x es names) (TreeFlow wild x bs names)
+  tree_runs =
+      look-runs seen arms (TreeCase wild x es names) case_some
+      (λ q n. each-join (NoneOf q) (arm_paths names bs) start.paths (arms_inside names q es bs h n) (start_inside q (not default && not full))) case_run
+
   pub case_runs : Runs (case_effect wild x es names) (case_flow wild x bs names)
   case_runs =
-      look-runs seen arms (case_effect wild x es names) case_some
-      (λ q n. each-join (NoneOf q) (arm_paths names bs) start.paths (arms_inside names q es bs h n) (start_inside q (not default && not full))) case_run
+      subst (λ (f : Flow). Runs (case_effect wild x es names) f) (sym (flow_is wild x bs names))
+      (runs_same (case_effect wild x es names) (TreeCase wild x es names) (TreeFlow wild x bs names) (case_is wild x es names) tree_runs)
 
 -- ---- statements
 

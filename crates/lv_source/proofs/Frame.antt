@@ -13,8 +13,9 @@ use Rattle.lv_ast.specs.Names.{Name, Names, Declared, Valuation, known, is_signa
 use Rattle.lv_ast.specs.Values.{nowhere}
 use Rattle.lv_ast.specs.Places.{Bit, Place, bit_at, has_bit, same_bit, some_bit, place_bits, place_of, set_bit, write_bits, write, whole}
 use Rattle.lv_ast.specs.Meaning.{Reading, Choice, read_expr, bits_named, all_constant, meant, constant_value}
-use Rattle.lv_ast.specs.Effect.{State, Effect, ArmOf, Piece, Update, pieces, aimed, piece_place, places, bits_in, write_all, assigned, effect_step, arm_step, executes, applied, left_by, in_order, each_turn, otherwise, is_set, arm_taken, is_default, unchanged, with_index, turns}
+use Rattle.lv_ast.specs.Effect.{State, Effect, ArmOf, Piece, Update, pieces, aimed, piece_place, places, bits_in, write_all, assigned, effect_step, arm_step, executes, applied, left_by, in_order, each_turn, otherwise, is_set, is_default, with_index, turns}
 use Rattle.lv_source.specs.Flow.{Event, event_writes, event_surely, writes_of, Flow, Flows, still, then_flow, all_flows, looks, branches, flow_or, flow_step, flow, block_writes}
+use Rattle.lv_source.proofs.CaseTrees.{arm_taken, unchanged, case_is, flow_is}
 use Rattle.lv_source.proofs.Each.{Each, Pairs}
 use Rattle.lv_source.proofs.Tests.{or-left, or-none_left, or-none_right, any-split, any-left, any-right, and-both, decide, same_name, name-itself, not-false}
 use Rattle.lv_source.proofs.Faithful.{FaithfulChoice, place_equal, choices_fixed}
@@ -177,7 +178,10 @@ taken_keeps names fits (a ∷ es) (c ∷ cs) h d b s n k =
     (taken_keeps names fits es cs h.1 a.body b s rest here) (taken_keeps names fits es cs h.1 d b s rest k)
 
 case_keeps : (wild : Bool) (x : Expr) (es : List (ArmOf Effect)) (bs : List (ArmOf Flows)) → Pairs KeptArm es bs → Kept (effect_step (Stmt-F.Case wild x es)) (flow_step (Stmt-F.Case wild x bs))
-case_keeps wild x es bs h names = record { kept = λ b n s. taken_keeps names _ es bs h unchanged b s n refl }
+case_keeps wild x es bs h names = record {
+  kept = λ b n s.
+      ap (λ (t : State). bit_at t.valuation b) (case_is wild x es names s) ∙ taken_keeps names _ es bs h unchanged b s (ap (λ (f : Flow). has_bit (written f.events) b) (sym (flow_is wild x bs names)) ∙ n) refl;
+}
 
 abbrev EffectOf : Stmt → Effect
 EffectOf s = fold_stmt Effect (ArmOf Effect) effect_step arm_step s

@@ -43,7 +43,7 @@ whole_faithful : (names : Names) (name : Name) → Faithful (whole_value names n
 whole_faithful names name = node names (Expr-F.Name (alone name) []) tt
 
 net_faithful : (s : Scope) (n : NetName) → (x : Option Expr) →
-    Each FaithfulPart (elim x [ None ↦ [] | Some x ↦ part s n.name.place (Assign (whole_piece s.names n.name.name ∷ []) (read_expr s.names x)) ∷ [] ])
+    Each FaithfulPart (elim x [ None ↦ [] | Some x ↦ part s n.name.place (Assign (whole_piece s.names n.name.place n.name.name ∷ []) (read_expr s.names x)) ∷ [] ])
 net_faithful s n None = tt
 net_faithful s n (Some x) = (((tt, tt), faithful s.names x), tt)
 
@@ -60,7 +60,7 @@ link_by : (s child : Scope) (l : Link) (x : Option Expr) → Each FaithfulPart (
 link_by s child l None = tt
 link_by s child l (Some x) =
     both_ways FaithfulPart _ _ (output_part s l.conn.place (whole_value child.names l.port) (as_target s.names x))
-    (part s l.conn.place (Assign (whole_piece child.names l.port ∷ []) (read_expr s.names x)) ∷ [])
+    (part s l.conn.place (Assign (whole_piece child.names l.conn.place l.port ∷ []) (read_expr s.names x)) ∷ [])
     (output_faithful s l.conn.place (whole_value child.names l.port) (whole_faithful child.names l.port) (as_target s.names x) (target_faithful s.names x))
     (((tt, tt), faithful s.names x), tt)
 

@@ -6,7 +6,7 @@ use Rattle.lv_ast.specs.declared.expr.Expr.{Expr}
 use Rattle.lv_ast.specs.declared.expr.Expr.TheOpen.{Expr-F, Select-F}
 use Rattle.lv_ast.specs.declared.expr.Select.{Select}
 use Rattle.lv_ast.specs.Names.{Names, Declared, Valuation, Sort, Input, Net, Variable, Clock, Constant, Index, Other, known, is_constant_sort, is_signal_sort}
-use Rattle.lv_ast.specs.Values.{nowhere, literal, unary, binary, chosen, concatenated, replicated, cast, divided, quotient, remainder, own_value}
+use Rattle.lv_ast.specs.Values.{nowhere, literal, unary, binary, chosen, concatenated, replicated, cast, divided, quotient, remainder, own_value, joined, widths}
 use Rattle.lv_ast.specs.Places.{Bit, Place, has_bit, place_bits, place_of, held, read, whole}
 use Rattle.lv_ast.specs.Meaning.{Reading, Choice, meanings, named, bits_named, index_reads, all_constant, meant, read_step, choice, read_expr, read_select}
 use Rattle.lv_source.proofs.Each.{Each}
@@ -85,7 +85,7 @@ node names (Expr-F.Rem a b) h =
 node names (Expr-F.Cond c a b) h =
     reading_faithful (chosen c.meaning a.meaning b.meaning) (c ∷ a ∷ b ∷ []) (h.0, (h.1, (h.2, tt))) (λ v w e. chosen_equal v w c.meaning a.meaning b.meaning e.0 e.1.0 e.1.1.0)
 node names (Expr-F.Cat rs) h =
-    reading_faithful (concatenated (meanings rs)) rs h (λ v w e W T. joined_equal v w (meanings rs) (meanings_equal v w rs e))
+    reading_faithful (concatenated (meanings rs)) rs h (λ v w e. plain_equal v w (widths (meanings rs)) false (λ v. joined v (meanings rs)) (joined_equal v w (meanings rs) (meanings_equal v w rs e)))
 node names (Expr-F.Rep n rs) h =
     reading_faithful (replicated n.meaning (meanings rs)) (n ∷ rs) (h.0, h.1) (λ v w e. replicated_equal v w n.meaning (meanings rs) (meanings_equal v w rs e.1))
 node names (Expr-F.Cast signed a) h =

@@ -106,7 +106,7 @@ held =
     (ReadFirst, plain_t (reg_r ∷ always_star (set_r (un o.Not (name (codes "r")))) 42 ∷ [])) ∷ []
 
 held_at : map (λ r. told_at r.1 r.0) held ≡
-    (20 ∷ []) ∷ (44 ∷ []) ∷ (46 ∷ []) ∷ (0 ∷ []) ∷ (0 ∷ 0 ∷ []) ∷ (0 ∷ 0 ∷ []) ∷ (36 ∷ []) ∷ (30 ∷ 50 ∷ []) ∷ (112 ∷ 112 ∷ 0 ∷ []) ∷ (40 ∷ 0 ∷ []) ∷ (0 ∷ []) ∷ (50 ∷ []) ∷ (50 ∷ []) ∷
+    (20 ∷ []) ∷ (44 ∷ []) ∷ (46 ∷ []) ∷ (0 ∷ []) ∷ (0 ∷ 0 ∷ []) ∷ (0 ∷ 0 ∷ []) ∷ (36 ∷ []) ∷ (30 ∷ 50 ∷ []) ∷ (112 ∷ 112 ∷ 0 ∷ []) ∷ (40 ∷ 0 ∷ []) ∷ (0 ∷ []) ∷ (50 ∷ 0 ∷ []) ∷ (50 ∷ 0 ∷ []) ∷
     (40 ∷ 0 ∷ 50 ∷ 0 ∷ []) ∷ (40 ∷ []) ∷ (42 ∷ []) ∷ (42 ∷ []) ∷ []
 unfolding read_expr read_select pieces executes turns turns_from flow labels as_target walk walk_select target_sites standing digits
 held_at = refl

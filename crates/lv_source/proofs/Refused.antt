@@ -6,11 +6,11 @@ use Rattle.lv_source.specs.Parts.{Design, At}
 use Rattle.lv_source.specs.Legal.{Kind, Refusal, HoldsAt, refusals, places_of, kinds, UnknownModule, UnknownName, Duplicate, NotConstant, ZeroDivisor, Range, Recursion, Port, WrongKind, ClockUse, Blocking, Nonblocking, TwoDrivers, Undriven, Latch, ReadFirst}
 
 -- an element, by recursion on the list
-abbrev In : {A : Type 0} → A → List A → Type 0
+abbrev pub In : {A : Type 0} → A → List A → Type 0
 In x [] = ⊥
 In x (y ∷ ys) = (y ≡ x) ⊎ In x ys
 
-in_contains : {A : Type 0} (x : A) (xs : List A) → In x xs → Contains xs x
+pub in_contains : {A : Type 0} (x : A) (xs : List A) → In x xs → Contains xs x
 in_contains x [] h = absurd h
 in_contains x (y ∷ ys) (inl e) = (0, (omega arith), e)
 in_contains x (y ∷ ys) (inr h) = let k : Contains ys x = in_contains x ys h in (suc k.0, (omega arith), k.2)
@@ -20,19 +20,19 @@ contains_by x [] k h e = absurd (omega arith)
 contains_by x (y ∷ ys) zero h e = inl e
 contains_by x (y ∷ ys) (suc k) h e = inr (contains_by x ys k (omega arith) e)
 
-contains_in : {A : Type 0} (x : A) (xs : List A) → Contains xs x → In x xs
+pub contains_in : {A : Type 0} (x : A) (xs : List A) → Contains xs x → In x xs
 contains_in x xs h = contains_by x xs h.0 h.1 h.2
 
-in-left : {A : Type 0} (x : A) (xs ys : List A) → In x xs → In x (xs ++ ys)
+pub in-left : {A : Type 0} (x : A) (xs ys : List A) → In x xs → In x (xs ++ ys)
 in-left x [] ys h = absurd h
 in-left x (y ∷ xs) ys (inl e) = inl e
 in-left x (y ∷ xs) ys (inr h) = inr (in-left x xs ys h)
 
-in-right : {A : Type 0} (x : A) (xs ys : List A) → In x ys → In x (xs ++ ys)
+pub in-right : {A : Type 0} (x : A) (xs ys : List A) → In x ys → In x (xs ++ ys)
 in-right x [] ys h = h
 in-right x (y ∷ xs) ys h = inr (in-right x xs ys h)
 
-in-split : {A : Type 0} (x : A) (xs ys : List A) → In x (xs ++ ys) → In x xs ⊎ In x ys
+pub in-split : {A : Type 0} (x : A) (xs ys : List A) → In x (xs ++ ys) → In x xs ⊎ In x ys
 in-split x [] ys h = inr h
 in-split x (y ∷ xs) ys (inl e) = inl (inl e)
 in-split x (y ∷ xs) ys (inr h) = elim (in-split x xs ys h) [ inl k ↦ inl (inr k) | inr k ↦ inr k ]

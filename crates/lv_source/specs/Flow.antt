@@ -1,5 +1,5 @@
 -- Paths through a block: the bits that it reads and writes, in order.
-use Rattle.std.specs.Prelude.{ℕ, ◌^◌, Bool, true, false, not, ◌&&◌, ◌||◌, if◌then◌else◌, ◌==◌, nat_le, List, [], ◌∷◌, ◌++◌, map, Option, Some, None, flat_map, filter}
+use Rattle.std.specs.Prelude.{ℕ, ◌^◌, Bool, true, false, not, ◌&&◌, ◌||◌, if◌then◌else◌, nat_le, List, [], ◌∷◌, ◌++◌, map, Option, Some, None, flat_map, filter}
 use Rattle.std.specs.List.{list_any, list_all, range_with_len}
 use Rattle.lv_bits.specs.Values.{extended, keeps_width}
 use Rattle.lv_ast.specs.declared.expr.Expr.TheVariants as x
@@ -11,8 +11,8 @@ use Rattle.lv_ast.specs.Values.{nowhere}
 use Rattle.lv_ast.specs.Trees.{fold_stmt}
 use Rattle.lv_ast.specs.Names.{Names, known}
 use Rattle.lv_ast.specs.Places.{Bit, has_bit}
-use Rattle.lv_ast.specs.Meaning.{Reading, read_expr, meaning, constant_value, all_constant, bits_named, index_reads}
-use Rattle.lv_ast.specs.Effect.{Piece, pieces, Width, common, is_match, ArmOf, arm_step, is_default, all_labels, with_index, turns}
+use Rattle.lv_ast.specs.Meaning.{Reading, read_expr, all_constant, bits_named, index_reads}
+use Rattle.lv_ast.specs.Effect.{Piece, pieces, Label, Arm, Width, common_of, fits_label, arm_labels, label_of, read_arm, is_met, ArmOf, arm_step, is_default, with_index, turns}
 
 -- a step of a path: what it reads, and then the target that it writes, at once or after the block
 pub record Event : Type 0 where
@@ -60,10 +60,12 @@ all_flows (f ∷ fs) = then_flow f (all_flows fs)
 abbrev pub looks : List Bit → Flow
 looks bs = one (record { reads = bs; targets = []; at_once = true; place = 0 })
 
+abbrev pub write_flow : Bool → List Piece → Reading → ℕ → Flow
+write_flow at_once ps x place =
+    one (record { reads = x.reads ++ flat_map (λ p. index_reads p.choices) ps; targets = ps; at_once = at_once; place = place })
+
 abbrev pub writes : Bool → Names → Target → Expr → ℕ → Flow
-writes at_once names t x place =
-    let ps : List Piece = pieces names t in
-    one (record { reads = (read_expr names x).reads ++ flat_map (λ p. index_reads p.choices) ps; targets = ps; at_once = at_once; place = place })
+writes at_once names t x place = write_flow at_once (pieces names t) (read_expr names x) place
 
 abbrev pub flow_or : Option Flows → Flows
 flow_or None names = still
@@ -73,6 +75,10 @@ flow_or (Some f) names = f names
 abbrev pub branches : Reading → Bool → Flow → Flow → Flow
 branches c holds a b =
     if c.constant then record { events = a.events ++ b.events; paths = if holds then a.paths else b.paths } else either_flow a b
+
+-- a condition, and then one of the branches
+abbrev pub if_flow : Reading → Flow → Flow → Flow
+if_flow c a b = then_flow (looks c.reads) (branches c (is_met nowhere c) a b)
 
 -- an expression that at a greater width is its own value, extended
 abbrev pub is_extended : Expr → Bool
@@ -86,33 +92,35 @@ is_extended (x.Bin' op n a m b) = not (keeps_width op)
 is_extended _ = false
 
 -- each value that the selector can have at the width of the `case` has a label that fits; that width counts where the selector may have a carry there
+abbrev pub is_full_of : Bool → Bool → Reading → List Label → Bool
+is_full_of wild own x labels =
+    let c : Width = common_of x labels in
+    let w : ℕ = if own then x.meaning.width else c.width in
+    nat_le w 8 && list_all (λ l. l.reading.constant) labels &&
+    list_all (λ y. list_any (fits_label nowhere wild c (extended c.signed w c.width y)) labels) (range_with_len 0 (if nat_le w 8 then 2 ^ w else 0))
+
 abbrev pub is_full : Names → Bool → Expr → List Expr → Bool
-is_full names wild e labels =
-    let c : Width = common names e labels in
-    let w : ℕ = if is_extended e then (meaning names e).width else c.width in
-    nat_le w 8 && list_all (λ l. (read_expr names l).constant) labels &&
-    list_all (λ y. list_any (is_match names nowhere wild c (extended c.signed w c.width y)) labels) (range_with_len 0 (if nat_le w 8 then 2 ^ w else 0))
+is_full names wild e labels = is_full_of wild (is_extended e) (read_expr names e) (map (label_of names) labels)
 
 abbrev pub no_match : Bool → Flow
 no_match can = if can then still else record { events = []; paths = [] }
 
-abbrev pub case_flow : Bool → Expr → List (ArmOf Flows) → Flows
-case_flow wild x arms names =
-    let labels : List Expr = all_labels arms in
+-- whether the selector at a greater width is its own value, extended; the selector and the arms
+abbrev pub case_flow_of : Bool → Bool → Reading → List (Arm Flow) → Flow
+case_flow_of wild own x arms =
+    let labels : List Label = arm_labels arms in
     let default : Bool = list_any (λ a. is_default a.labels) arms in
-    let start : Flow = no_match (not default && not (is_full names wild x labels)) in
-    let looked : List Bit = (read_expr names x).reads ++ flat_map (λ l. (read_expr names l).reads) labels in
-    then_flow (looks looked) (record {
-      events = flat_map (λ a. (a.body names).events) arms;
-      paths = flat_map (λ a. (a.body names).paths) arms ++ start.paths;
-    })
+    let start : Flow = no_match (not default && not (is_full_of wild own x labels)) in
+    let looked : List Bit = x.reads ++ flat_map (λ l. l.reading.reads) labels in
+    then_flow (looks looked) (record { events = flat_map (λ a. a.body.events) arms; paths = flat_map (λ a. a.body.paths) arms ++ start.paths })
+
+abbrev pub case_flow : Bool → Expr → List (ArmOf Flows) → Flows
+case_flow wild x arms names = case_flow_of wild (is_extended x) (read_expr names x) (map (read_arm names) arms)
 
 abbrev pub flow_step : Stmt-F Flows (ArmOf Flows) → Flows
 flow_step Stmt-F.Null names = still
 flow_step (Stmt-F.Block name body) names = all_flows (map (λ f. f names) body)
-flow_step (Stmt-F.If x then_ else_) names =
-    let c : Reading = read_expr names x in
-    then_flow (looks c.reads) (branches c (not (constant_value names x == 0)) (then_ names) (flow_or else_ names))
+flow_step (Stmt-F.If x then_ else_) names = if_flow (read_expr names x) (then_ names) (flow_or else_ names)
 flow_step (Stmt-F.Case wild x arms) names = case_flow wild x arms names
 flow_step (Stmt-F.Loop index start test again next body) names =
     all_flows (map (λ k. body (with_index names index.name index.place k)) (turns names index.name index.place start test next))

@@ -84,7 +84,7 @@ abbrev pub wrong_kinds : Design → List At
 wrong_kinds d = at_parts d (λ ps k q. p.wrong_kinds d q)
 
 abbrev pub clock_uses : Design → List At
-clock_uses d = top_clock d ++ in_scopes d (s.clock_uses d.source) ++ at_parts d (λ ps k q. p.other_clocks q)
+clock_uses d = top_clock d ++ in_scopes d (s.clock_uses d.source) ++ at_parts d (λ ps k q. p.other_clocks q ++ p.clock_targets q)
 
 abbrev pub blocking : Design → List At
 blocking d = at_parts d (p.blocking d)

@@ -1,4 +1,5 @@
 pub mod Declarations
+pub mod Faults
 pub mod Flow
 pub mod Legal
 pub mod Limits
@@ -6,8 +7,11 @@ pub mod NodeRules
 pub mod Observe
 pub mod PartRules
 pub mod Parts
+pub mod PlainNames
 pub mod ScopeRules
 pub mod Scopes
 pub mod Settled
 pub mod Sites
 pub mod Standing
+pub mod Summary
+pub mod Views

@@ -10,10 +10,12 @@ use Rattle.lv_ast.specs.declared.item.Item.{Item}
 use Rattle.lv_ast.specs.declared.item.Item.TheVariants as i
 use Rattle.lv_ast.specs.declared.item.Range.{Range}
 use Rattle.lv_ast.specs.declared.item.Conn.{Conn}
+use Rattle.lv_ast.specs.declared.item.Params.{Params}
+use Rattle.lv_ast.specs.declared.item.Ports.{Ports}
+use Rattle.lv_ast.specs.declared.item.Ports.TheVariants as p
 use Rattle.lv_ast.specs.Trees.{fold_expr, fold_select, fold_target, fold_stmt}
 use Rattle.lv_ast.specs.Names.{Names}
 use Rattle.lv_ast.specs.Effect.{ArmOf, arm_step, with_index, turns}
-use Rattle.lv_source.specs.Declarations.{Declaration, Direction, Wire, Reg, Parameter, Index, Instance, Label}
 use Rattle.lv_source.specs.Scopes.{Scope}
 use Rattle.lv_source.specs.Parts.{Design, parts, scopes_of}
 use Rattle.lv_source.specs.Settled.{register_bits}
@@ -94,22 +96,22 @@ abbrev pub range_nodes : Option Range → ℕ
 range_nodes None = 0
 range_nodes (Some r) = expr_nodes r.left + expr_nodes r.right
 
-abbrev pub declaration_nodes : Declaration → ℕ
-declaration_nodes d = elim d.thing [
-  | Direction o w s r ↦ range_nodes r
-  | Wire s r ↦ range_nodes r
-  | Reg s r a ↦ range_nodes r + range_nodes a
-  | Parameter l s r x ↦ range_nodes r + expr_nodes x
-  | Index g ↦ 0
-  | Instance ↦ 0
-  | Label ↦ 0
-]
+-- a range counts once, whatever the number of names that it is for
+abbrev pub params_nodes : Params → ℕ
+params_nodes ps = range_nodes ps.range + sum (map (λ s. expr_nodes s.value) ps.list)
+
+abbrev pub ports_nodes : Ports → ℕ
+ports_nodes (p.Declared ports) = sum (map (λ a. range_nodes a.range) ports)
+ports_nodes _ = 0
 
 abbrev pub conn_nodes : List Conn → ℕ
 conn_nodes cs = sum (map (λ c. maybe_nodes c.value) cs)
 
 abbrev pub item_size : Scope → Item → Size
-item_size s (i.Wire signed range names) = nodes_alone (sum (map (λ n. maybe_nodes n.value) names))
+item_size s (i.Port a) = nodes_alone (range_nodes a.range)
+item_size s (i.Wire signed range names) = nodes_alone (range_nodes range + sum (map (λ n. maybe_nodes n.value) names))
+item_size s (i.Reg signed range names) = nodes_alone (range_nodes range + sum (map (λ n. range_nodes n.bounds) names))
+item_size s (i.Params local ps) = nodes_alone (params_nodes ps)
 item_size s (i.Assign list) = nodes_alone (sum (map (λ a. target_nodes a.target + expr_nodes a.value) list))
 item_size s (i.Always watch stmt place) = stmt_size s.names stmt
 item_size s (i.Instance kind settings insts) = nodes_alone (conn_nodes settings + sum (map (λ n. conn_nodes n.conns) insts))
@@ -118,7 +120,7 @@ item_size s (i.Loop' index start test again next label n items) =
 item_size s _ = nodes_alone 0
 
 abbrev pub scope_size : Scope → Size
-scope_size s = sum_sizes (nodes_alone (sum (map declaration_nodes s.declarations)) ∷ map (item_size s) s.items)
+scope_size s = sum_sizes (nodes_alone (sum (map params_nodes s.params) + ports_nodes s.ports) ∷ map (item_size s) s.items)
 
 abbrev pub design_size : Design → Size
 design_size d = sum_sizes (map scope_size (scopes_of d))

@@ -6,7 +6,7 @@ use Rattle.lv_ast.specs.declared.expr.Expr.TheOpen.{Expr-F, Select-F}
 use Rattle.lv_ast.specs.Names.{Sort, Index, Other, Declared, Bounds, known, is_constant_sort, is_clock_sort}
 use Rattle.lv_ast.specs.Values.{own_value, number_of, nowhere}
 use Rattle.lv_ast.specs.Places.{falls, count_of, bit_selects}
-use Rattle.lv_source.specs.Sites.{Shown, Step, Role, Value, Joined, Written, Driven, Site, first_of, first_place}
+use Rattle.lv_source.specs.Sites.{Shown, Step, Role, Value, Joined, Written, Driven, DrivenJoined, Site, first_of, first_place}
 
 -- ---- numbers
 
@@ -51,6 +51,7 @@ is_written Value = false
 is_written Joined = false
 is_written Written = true
 is_written Driven = true
+is_written DrivenJoined = true
 
 abbrev pub is_name_fault : Role → Option Declared → List Step → Bool
 is_name_fault role None ss = true
@@ -127,6 +128,7 @@ is_select_fault d ss =
 -- a size out of 1 to 128; without a size a value of 2^32 or more, or an operand that is joined
 abbrev pub is_literal_fault : Role → Literal → Bool
 is_literal_fault Joined l = elim l.size [ None ↦ true | Some n ↦ not (is_width n) ]
+is_literal_fault DrivenJoined l = elim l.size [ None ↦ true | Some n ↦ not (is_width n) ]
 is_literal_fault role l = elim l.size [ None ↦ nat_le (2 ^ 32) l.value | Some n ↦ not (is_width n) ]
 
 abbrev pub is_node_fault : Site → Bool

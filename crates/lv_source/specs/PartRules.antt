@@ -10,7 +10,7 @@ use Rattle.lv_source.specs.Parts.{Design, Part, At, Assign, Comb, Clocked, signa
 use Rattle.lv_source.specs.ScopeRules.{same_sign}
 
 -- the other parts
-abbrev pub others : ℕ → List Part → List Part
+abbrev pub others : {A : Type 0} → ℕ → List A → List A
 others k ps = take k ps ++ drop (suc k) ps
 
 abbrev pub at_place : Part → ℕ → At
@@ -72,10 +72,26 @@ clock_places p = elim p.body [ Assign ps value ↦ [] | Comb names s ↦ [] | Cl
 abbrev pub other_clocks : Part → List At
 other_clocks p = told_if (is_other_clock p) (clock_places p)
 
+-- ---- ClockUse: a clock name as a target, that of a `wire` with a value too
+
+abbrev pub is_clock_piece : Piece → Bool
+is_clock_piece q = is_clock_sort (known q.declared).sort
+
+abbrev pub clock_targets : Part → List At
+clock_targets p = map (λ q. at_place p q.path.place) (filter is_clock_piece (targets p))
+
 -- ---- Nonblocking: `<=` in a combinational block
 
+-- told at the first token of the target, or at its first name
+abbrev pub first_name : List Piece → List ℕ
+first_name [] = []
+first_name (q ∷ qs) = q.path.place ∷ []
+
+abbrev pub event_places : Part → Event → List At
+event_places p e = map (at_place p) (e.place ∷ first_name e.targets)
+
 abbrev pub nonblocking : Part → List At
-nonblocking p = map (λ e. at_place p e.place) (filter (λ e. is_comb p && not e.at_once) (events p))
+nonblocking p = flat_map (event_places p) (filter (λ e. is_comb p && not e.at_once) (events p))
 
 -- ---- Blocking: a clocked block writes a variable by `=`, and some bit of it is written by `<=` as well, or is read by another part
 
@@ -88,7 +104,7 @@ abbrev pub is_blocking : Design → List Part → ℕ → Event → Bool
 is_blocking d ps k e = e.at_once && list_any (λ x. is_variable_sort x.sort && touches (event_writes e) x && is_shared ps k x) (signals_of d)
 
 abbrev pub blocking : Design → List Part → ℕ → Part → List At
-blocking d ps k p = if is_clocked p then map (λ e. at_place p e.place) (filter (is_blocking d ps k) (events p)) else []
+blocking d ps k p = if is_clocked p then flat_map (event_places p) (filter (is_blocking d ps k) (events p)) else []
 
 -- ---- TwoDrivers
 

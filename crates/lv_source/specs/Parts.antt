@@ -130,8 +130,8 @@ sink_step names x = record { reading = read_step names (read_layer x); target = 
 unfoldable pub as_target : Names → Expr → Option (List Piece)
 as_target names x = (fold_expr Sink Choice (sink_step names) read_choice x).target
 
-abbrev pub whole_piece : Names → Name → Piece
-whole_piece names name = record { path = alone name; declared = names (alone name); choices = [] }
+abbrev pub whole_piece : Names → ℕ → Name → Piece
+whole_piece names place name = record { path = record (alone name) { place = place }; declared = names (alone name); choices = [] }
 
 abbrev pub whole_value : Names → Name → Reading
 whole_value names name = read_step names (Expr-F.Name (alone name) [])
@@ -140,7 +140,7 @@ abbrev pub part : Scope → ℕ → Body → Part
 part s place body = record { at = record { path = s.path; place = place }; body = body }
 
 abbrev pub net_part : Scope → NetName → List Part
-net_part s n = elim n.value [ None ↦ [] | Some x ↦ part s n.name.place (Assign (whole_piece s.names n.name.name ∷ []) (read_expr s.names x)) ∷ [] ]
+net_part s n = elim n.value [ None ↦ [] | Some x ↦ part s n.name.place (Assign (whole_piece s.names n.name.place n.name.name ∷ []) (read_expr s.names x)) ∷ [] ]
 
 abbrev pub output_part : Scope → ℕ → Reading → Option (List Piece) → List Part
 output_part s place value None = []
@@ -151,7 +151,7 @@ abbrev pub link_body : Scope → Scope → Link → Expr → List Part
 link_body s child l x =
     if is_clock s.names x && is_clock_sort (known (child.names (alone l.port))).sort then []
     else if list_any is_output (declared_as l.port child.declarations) then output_part s l.conn.place (whole_value child.names l.port) (as_target s.names x)
-    else part s l.conn.place (Assign (whole_piece child.names l.port ∷ []) (read_expr s.names x)) ∷ []
+    else part s l.conn.place (Assign (whole_piece child.names l.conn.place l.port ∷ []) (read_expr s.names x)) ∷ []
 
 abbrev pub link_part : Scope → Scope → Link → List Part
 link_part s child l = elim l.conn.value [ None ↦ [] | Some x ↦ link_body s child l x ]

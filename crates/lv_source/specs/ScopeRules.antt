@@ -15,10 +15,10 @@ use Rattle.lv_ast.specs.declared.item.Ports.TheVariants as p
 use Rattle.lv_ast.specs.declared.item.PortWord.TheVariants as w
 use Rattle.lv_ast.specs.declared.item.Source.{Source}
 use Rattle.lv_ast.specs.declared.item.Watch.TheVariants as v
-use Rattle.lv_ast.specs.Names.{Name, Names, Input, Net, Variable, Clock, Constant, Other, Declared, Bounds, known, alone, size, width_of, is_clock_sort}
+use Rattle.lv_ast.specs.Names.{Name, Names, Sort, Input, Net, Variable, Clock, Constant, Other, Declared, Bounds, known, alone, size, width_of, is_signal_sort, is_clock_sort}
 use Rattle.lv_ast.specs.Names.{Index as IndexSort}
-use Rattle.lv_source.specs.Declarations.{Thing, Direction, Wire, Reg, Parameter, Index, Instance, Label, Declaration, of_module, port_names, declared_as}
-use Rattle.lv_source.specs.Scopes.{Scope, module_named, instance_scopes, is_among, is_direction, is_output, links, Link, settable, is_clock, bound_number, range_bounds, names_at, counted_items}
+use Rattle.lv_source.specs.Declarations.{Thing, Direction, Wire, Reg, Parameter, Index, Instance, Label, Declaration, port_names, declared_as}
+use Rattle.lv_source.specs.Scopes.{Scope, module_named, instance_scopes, is_among, is_direction, is_output, links, Link, settable_in, setting_width, is_clock, bound_number, range_bounds, names_at, counted_items}
 use Rattle.lv_source.specs.Parts.{numbered_from, as_target}
 use Rattle.lv_source.specs.Sites.{Driven, Site, first_place, first_of, walk, expr_sites, sink_sites, target_sites}
 use Rattle.lv_source.specs.Standing.{Empty, Test, Choose, Repeat, Assign, Standing, standing, stmt_sites, target_width, header_sites}
@@ -77,12 +77,19 @@ inst_sites source s names settings inst None = []
 inst_sites source s names settings inst (Some m) =
     flat_map (λ child. flat_map (link_sites names child) (links (port_names m.ports) inst.conns)) (instance_scopes s settings inst (Some m))
 
+-- each setting at the width at which its value is taken
+abbrev pub setting_sites : Scope → Names → List Conn → Option Module → List Site
+setting_sites s names settings None = flat_map (λ c. maybe_sites true names 0 c.value) settings
+setting_sites s names settings (Some m) =
+    flat_map (λ l. maybe_sites true names (setting_width s.names settings m l.port) l.conn.value) (links (settable_in m) settings) ++
+    flat_map (λ c. if is_none c.name then maybe_sites true names 0 c.value else []) (drop (length (settable_in m)) settings)
+
 abbrev pub item_sites : Source → Scope → Names → Item → List Site
 item_sites source s names (i.Wire signed range nets) = flat_map (λ n. maybe_sites false names (port_width s n.name.name) n.value) nets
 item_sites source s names (i.Assign list) = flat_map (λ a. target_sites names Driven a.target ++ expr_sites false names (target_width names a.target) a.value) list
 item_sites source s names (i.Always watch stmt place) = stmt_sites names stmt
 item_sites source s names (i.Instance kind settings insts) =
-    flat_map (λ c. maybe_sites true names 0 c.value) settings ++ flat_map (λ inst. inst_sites source s names settings inst (module_named source kind.name)) insts
+    setting_sites s names settings (module_named source kind.name) ++ flat_map (λ inst. inst_sites source s names settings inst (module_named source kind.name)) insts
 item_sites source s names (i.Loop' index start test again next label n items) = header_sites names index start test next
 item_sites source s names _ = []
 
@@ -139,14 +146,18 @@ unlisted_names listed cs = flat_map (λ c. elim c.name [ None ↦ [] | Some n �
 
 abbrev pub settable_of : Option Module → List Ident
 settable_of None = []
-settable_of (Some m) = flat_map settable (of_module m)
+settable_of (Some m) = settable_in m
 
 abbrev pub unknown_setting : Option Module → List Conn → List ℕ
 unknown_setting None settings = []
 unknown_setting (Some m) settings = unlisted_names (settable_of (Some m)) settings
 
+-- neither a signal nor a clock
+abbrev pub is_no_edge : Sort → Bool
+is_no_edge sort = not (is_signal_sort sort) && not (is_clock_sort sort)
+
 abbrev pub unknown_in_item : Source → Names → Item → List ℕ
-unknown_in_item source names (i.Always (v.Posedge clock) stmt place) = place_if (is_none (names (alone clock.name))) clock.place
+unknown_in_item source names (i.Always (v.Posedge clock) stmt place) = place_if (is_no_edge (known (names (alone clock.name))).sort) clock.place
 unknown_in_item source names (i.Instance kind settings insts) = unknown_setting (module_named source kind.name) settings
 unknown_in_item source names (i.Loop' index start test again next label n items) = header_names true names index again
 unknown_in_item source names _ = []
@@ -336,12 +347,12 @@ other_range names r d e = elim e.thing [
   | Label ↦ []
 ]
 
--- a direction, and a `wire` or `reg` of another range
+-- a direction, and a second one, a `wire` or `reg` of another range
 abbrev pub two_ranges : Scope → Declaration → List ℕ
 two_ranges s d = elim d.thing [
   | Wire sign r ↦ flat_map (other_range s.names r d) (declared_as d.name.name s.declarations)
   | Reg sign r a ↦ flat_map (other_range s.names r d) (declared_as d.name.name s.declarations)
-  | Direction o word sign r ↦ []
+  | Direction o word sign r ↦ flat_map (other_range s.names r d) (declared_as d.name.name s.declarations)
   | Parameter l sign r x ↦ []
   | Index g ↦ []
   | Instance ↦ []

@@ -9,6 +9,7 @@ use Rattle.lv_ast.specs.declared.expr.Expr.{Row_of-Select, end_of-Select, more_o
 use Rattle.lv_ast.specs.declared.stmt.Ident.{Ident}
 use Rattle.lv_ast.specs.declared.item.Item.{Item}
 use Rattle.lv_ast.specs.declared.item.Item.TheVariants as i
+use Rattle.lv_ast.specs.declared.item.Params.{Params}
 use Rattle.lv_ast.specs.declared.item.Range.{Range}
 use Rattle.lv_ast.specs.declared.item.Conn.{Conn}
 use Rattle.lv_ast.specs.declared.item.Inst.{Inst}
@@ -35,6 +36,7 @@ pub record Scope : Type 0 where
   pub around : List Name
   -- of a module; none in a turn of a loop
   pub ports : Ports
+  pub params : List Params
   -- how many of the declarations stand before the items
   pub header : ℕ
 
@@ -193,7 +195,7 @@ links ports (c ∷ cs) = elim c.name [
   | None ↦ elim ports [ [] ↦ [] | ◌∷◌ q qs ↦ record { port = q.name; conn = c } ∷ links qs cs ]
 ]
 
--- the parameters that an instance can set, in order
+-- what of a declaration an instance can set
 abbrev pub settable : Declaration → List Ident
 settable d = elim d.thing [ Parameter local s r v ↦ if local then [] else d.name ∷ [] | Direction o w s r ↦ [] | Wire s r ↦ [] | Reg s r b ↦ [] | Index g ↦ [] | Instance ↦ [] | Label ↦ [] ]
 
@@ -219,16 +221,27 @@ module_scope path top around os clocks m =
       names = scope_names constants path top (filter (is_one_bit_input constants ds) (clocks constants)) ds;
       around = m.name.name ∷ around;
       ports = m.ports;
+      params = m.params;
       header = length ds - length (of_items (module_items m));
     }
 
 abbrev pub module_named : Source → Name → Option Module
 module_named source name = find (λ m. bytes_eq m.name.name name) source.modules
 
+-- the parameters that an instance can set, in order
+abbrev pub settable_in : Module → List Ident
+settable_in m = flat_map settable (of_module m)
+
+abbrev pub overrides : Names → List Conn → Module → List Override
+overrides there settings m = flat_map (override_by there) (links (settable_in m) settings)
+
+-- the width of a parameter of an instance with these settings; without a range that of the value
+abbrev pub setting_width : Names → List Conn → Module → Name → ℕ
+setting_width there settings m name = width_of (known (with_parameters (overrides there settings m) no_names (of_module m) (alone name)))
+
 abbrev pub instance_scope : Scope → List Conn → Inst → Module → Scope
 instance_scope s settings inst m =
-    module_scope (below s.path (spelled inst.name.name)) false s.around
-    (flat_map (override_by s.names) (links (flat_map settable (of_module m)) settings))
+    module_scope (below s.path (spelled inst.name.name)) false s.around (overrides s.names settings m)
     (λ constants. flat_map (clock_by s.names) (links (port_names m.ports) inst.conns)) m
 
 -- an instance whose module stands around it already has no scope
@@ -241,7 +254,7 @@ turn_scope s names index label items value =
     let path : Name = below s.path (at_index (spelled label.name) (signed_decimal (signed_of 32 value))) in
     let ds : List Declaration = of_items items in
     let constants : Names = with_parameters [] (with_index names index.name index.place value) ds in
-    record { path = path; declarations = ds; items = items; names = scope_names constants path false [] ds; around = s.around; ports = p.Empty; header = 0 }
+    record { path = path; declarations = ds; items = items; names = scope_names constants path false [] ds; around = s.around; ports = p.Empty; params = []; header = 0 }
 
 -- each item with the count of the declarations before it
 abbrev pub counted_from : ℕ → List Item → List (ℕ × Item)

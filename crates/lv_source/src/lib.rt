@@ -2,12 +2,19 @@
 //! observers, after IEEE 1364-2005. Each function below does nothing: its contract is a law of these definitions.
 #![tactic(auto)]
 
-ghost use Rattle.std.specs.Prelude.{◌≡◌, ◌↔◌, ◌<◌, ◌^◌, List, Contains};
+ghost use Rattle.std.specs.Prelude.{◌≡◌, ◌↔◌, ◌<◌, ◌^◌, ℕ, List, Contains};
 ghost use Rattle.std.specs.List.{AllZip};
-ghost use Rattle.lv_ast.specs.Names.{Name, Valuation};
-ghost use Rattle.lv_source.specs.Parts.{Design, At, registers_of, width_at};
+ghost use Rattle.lv_ast.specs.Names.{Name, Names, Valuation};
+ghost use Rattle.lv_source.specs.Parts.{Design, At, scopes_of, registers_of, width_at};
 ghost use Rattle.lv_source.specs.Settled.{IsSettled, Follows, SameOn, SameInputs, IsRun, StartAlike, HasApartSignals};
-ghost use Rattle.lv_source.specs.Legal.{IsLegal, Kind, Refusal, HoldsAt, refusals};
+ghost use Rattle.lv_source.specs.Legal.{IsLegal, Kind, Refusal, HoldsAt, refusals, places_of};
+ghost use Rattle.lv_source.specs.Flow.{flow, is_latch, is_read_first};
+ghost use Rattle.lv_source.specs.Summary.{summary, leaves_latch, exposes_own};
+ghost use Rattle.lv_source.specs.Views.{AreViewed};
+ghost use Rattle.lv_source.specs.Scopes.{Scope};
+ghost use Rattle.lv_source.specs.PlainNames.{HasPlainNames, DrivesSignals};
+ghost use Rattle.lv_source.specs.Faults.{faults, scope_faults};
+ghost use Rattle.lv_ast.specs.declared.stmt.Stmt.{Stmt};
 
 /// A legal source has at most one settled valuation for each state and each input.
 pub fn settled_valuation_is_one()
@@ -34,4 +41,35 @@ pub fn run_is_determined()
 /// The list of all refusals has each kind exactly where it holds.
 pub fn refusals_are_what_holds()
     ensures { (d : Design) (kind : Kind) (at : At) → HoldsAt d kind at ↔ Contains (refusals d) (record { kind = kind; at = at }) }
+{}
+
+/// A block leaves a latch exactly where it writes a bit that it does not write on every path.
+pub fn summary_tells_latches()
+    ensures { (names : Names) (s : Stmt) → is_latch (flow names s) ≡ leaves_latch (summary names s) }
+{}
+
+/// A block reads first exactly where it writes a bit that some path reads before it has written it for sure.
+pub fn summary_tells_reads()
+    ensures { (names : Names) (s : Stmt) → is_read_first (flow names s) ≡ exposes_own (summary names s) }
+{}
+
+/// The rules on parts, settled valuations and the next state are those of the signals and the views of parts.
+pub fn parts_are_their_views()
+    ensures { (d : Design) → AreViewed d }
+{}
+
+/// The faults of the design, of its scopes and of its parts are what is refused.
+pub fn faults_are_what_is_refused()
+    ensures { (d : Design) (kind : Kind) → faults d kind ≡ places_of d kind }
+{}
+
+/// A fault of a scope is told at the path of the scope.
+pub fn scope_faults_are_told()
+    ensures { (d : Design) (kind : Kind) (s : Scope) (place : ℕ) → Contains (scopes_of d) s → Contains (scope_faults d.source kind s) place →
+        HoldsAt d kind (record { path = s.path; place = place }) }
+{}
+
+/// No two signals of a legal source share a cell, where no declared name has a space inside.
+pub fn signals_are_apart()
+    ensures { (d : Design) → IsLegal d → HasPlainNames d.source → DrivesSignals d → HasApartSignals d }
 {}

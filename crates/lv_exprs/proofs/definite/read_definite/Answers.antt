@@ -28,8 +28,8 @@ returns-in-Ok-read c =
     let q = size_read _ _ _ _ c.in-Ok.ensures.1 (sym c.has_free_bits.ensures ∙ c.if-not-has_free_bits.false) c.if-end-from-eq1.false _ _ s in
     (omega arith, q.0, subst (λ (v : ℕ). ReadsDefinite (tokens_from c.args.tokens.now.text c.args.tokens.now.list c.args.from) v q.0) z q.1, q.2, q.3)
 
-pub returns : goal.returns
-returns c =
+pub returns-in-Err-read : goal.returns-in-Err-read
+returns-in-Err-read c =
     let b = subst (λ (v : List ℕ). Refuses v false (symbols v c.token_at-size.result.now) c.in-Err-read.error) c.bytes.ensures c.in-Err-read.ensures in
     let s = subst (λ (v : List Symbol). Refuses c.args.tokens.now.text false v c.in-Err-read.error)
     (ap (symbols c.args.tokens.now.text) c.token_at-size.ensures ∙ ap (λ v. symbols c.args.tokens.now.text (take 1 (drop c.args.from v))) c.as_slice.ensures ∙ first_symbol c.args.tokens.now.text (drop c.args.from c.args.tokens.now.list)) b in

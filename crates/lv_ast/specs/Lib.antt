@@ -1,10 +1,6 @@
-pub mod Effect
 pub mod Folds
-pub mod Meaning
 pub mod Names
-pub mod Places
 pub mod Sources
 pub mod TokenLists
 pub mod Tokens
 pub mod Trees
-pub mod Values

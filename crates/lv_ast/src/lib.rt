@@ -1,5 +1,5 @@
-//! Tokens and trees of the profile of IEEE 1364-2005 that this program reads, and in `specs/` what they mean:
-//! names, widths, types and values of expressions, places of targets, effects of statements.
+//! Tokens and trees of the profile of IEEE 1364-2005 that this program reads, and in `specs/` how names, tokens and
+//! paths are written.
 #![tactic(auto)]
 
 mod expr;

@@ -13,12 +13,13 @@ use Rattle.lv_ast.specs.declared.expr.Expr.{Expr}
 use Rattle.lv_ast.specs.declared.stmt.Target.TheVariants as t
 use Rattle.lv_ast.specs.declared.stmt.Stmt.{Stmt}
 use Rattle.lv_ast.specs.declared.stmt.Stmt.TheVariants as b
-use Rattle.lv_ast.specs.Names.{Name, Names, Valuation, Variable, known, is_signal_sort}
-use Rattle.lv_ast.specs.Places.{Place, place_of, write_bits}
-use Rattle.lv_ast.specs.Values.{Meaning}
-use Rattle.lv_ast.specs.Meaning.{meaning}
-use Rattle.lv_ast.specs.Effect.{pieces, aimed, places, bits_in, write_all, assigned, State, Update, executes, applied, left_by}
-use Rattle.lv_ast.proofs.Effects.{pieces-Name, run_all, executes-Later, executes-Block}
+use Rattle.lv_ast.specs.Names.{Name}
+use Rattle.lv_source.specs.Names.{Names, Valuation, Variable, known, is_signal_sort}
+use Rattle.lv_source.specs.Places.{Place, place_of, write_bits}
+use Rattle.lv_source.specs.Values.{Meaning}
+use Rattle.lv_source.specs.Meaning.{meaning}
+use Rattle.lv_source.specs.Effect.{pieces, aimed, places, bits_in, write_all, assigned, State, Update, executes, applied, left_by}
+use Rattle.lv_source.proofs.Effects.{pieces-Name, run_all, executes-Later, executes-Block}
 use Rattle.lv_run.specs.declared.formula.Formula.{Formula}
 use Rattle.lv_run.specs.declared.formula.Formula.TheVariants.{Constant}
 use Rattle.lv_run.specs.FirstForm.{scope_of, one_bit, IsBitExpr, IsAssignment, assigns}

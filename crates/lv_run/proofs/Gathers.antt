@@ -9,7 +9,8 @@ use Rattle.std.proofs.lemmas.Map.Keys.{IsDistinct-head, IsDistinct-tail, IsDisti
 use Rattle.lv_ast.specs.declared.expr.Path.{Path}
 use Rattle.lv_ast.specs.declared.expr.Expr.{Expr}
 use Rattle.lv_ast.specs.declared.expr.Expr.TheVariants as e
-use Rattle.lv_ast.specs.Names.{Name, Names}
+use Rattle.lv_ast.specs.Names.{Name}
+use Rattle.lv_source.specs.Names.{Names}
 use Rattle.lv_run.specs.declared.formula.Formula.{Formula}
 use Rattle.lv_run.specs.FirstForm.{is_in, scope_of, IsRegisterName, register}
 use Rattle.lv_run.specs.Formulas.{truth, variable}

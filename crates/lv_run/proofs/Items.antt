@@ -14,7 +14,8 @@ use Rattle.lv_ast.specs.declared.item.RegName.{RegName}
 use Rattle.lv_ast.specs.declared.item.Watch.{Watch}
 use Rattle.lv_ast.specs.declared.item.Item.{Item}
 use Rattle.lv_ast.specs.declared.item.Item.TheVariants as i
-use Rattle.lv_ast.specs.Names.{Name, Names}
+use Rattle.lv_ast.specs.Names.{Name}
+use Rattle.lv_source.specs.Names.{Names}
 use Rattle.lv_run.specs.declared.formula.Formula.{Formula}
 use Rattle.lv_run.specs.declared.formula.Formula.TheVariants.{Variable}
 use Rattle.lv_run.specs.FirstForm.{scope_of, after, body_in, clocked, is_bit_register, IsAssignment, IsBody, block, single, IsBitItem, declares, clocks}

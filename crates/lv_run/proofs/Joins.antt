@@ -6,7 +6,8 @@ use Rattle.lv_bits.specs.declared.op.Op.TheVariants as o
 use Rattle.lv_ast.specs.declared.expr.Path.{Path}
 use Rattle.lv_ast.specs.declared.expr.Expr.{Expr}
 use Rattle.lv_ast.specs.declared.expr.Expr.TheVariants as e
-use Rattle.lv_ast.specs.Names.{Name, Names, Input, Variable, has_no_steps}
+use Rattle.lv_ast.specs.Names.{Name, has_no_steps}
+use Rattle.lv_source.specs.Names.{Names, Input, Variable}
 use Rattle.lv_run.specs.FirstForm.{is_in, scope_of, IsBitExpr, name, inverse, joined}
 use Rattle.lv_run.specs.Formulas.{Truth, truth, negated, both, either, differ}
 use Rattle.lv_run.specs.declared.formula.Formula.TheVariants as f

@@ -7,10 +7,11 @@ use Rattle.lv_bits.specs.Values.{bit, unary_value, binary_value}
 use Rattle.lv_ast.specs.declared.expr.Path.{Path}
 use Rattle.lv_ast.specs.declared.expr.Expr.{Expr}
 use Rattle.lv_ast.specs.declared.expr.Expr.TheVariants as e
-use Rattle.lv_ast.specs.Names.{Name, Names, Valuation, Sort, Input, Net, Variable, Clock, Constant, Index, Other, is_signal_sort, known}
-use Rattle.lv_ast.specs.Values.{Meaning, binary, arithmetic}
-use Rattle.lv_ast.specs.Meaning.{reading, meaning, read_expr, own, named}
-use Rattle.lv_ast.proofs.Readings.{read-Name, read-Un, read-Bin}
+use Rattle.lv_ast.specs.Names.{Name}
+use Rattle.lv_source.specs.Names.{Names, Valuation, Sort, Input, Net, Variable, Clock, Constant, Index, Other, is_signal_sort, known}
+use Rattle.lv_source.specs.Values.{Meaning, binary, arithmetic}
+use Rattle.lv_source.specs.Meaning.{reading, meaning, read_expr, own, named}
+use Rattle.lv_source.proofs.ReadingRules.{read-Name, read-Un, read-Bin}
 use Rattle.lv_run.specs.FirstForm.{one_bit}
 use Rattle.lv_run.specs.Formulas.{Truth, same_bit, variable, negated, both, either, differ}
 use Rattle.lv_run.specs.Signals.{env_of, AreBits, IsBitOf}

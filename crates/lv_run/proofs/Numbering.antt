@@ -6,7 +6,8 @@ use Rattle.std.proofs.lemmas.Slice.Eq.{bytes_eq-Decides}
 use Rattle.std.proofs.lemmas.Map.Keys.{IsDistinct-head, IsDistinct-tail}
 use Rattle.std.proofs.lemmas.List.Elements.{All-nil, All-cons, All-head, All-tail}
 use Rattle.lv_bits.specs.Values.{bit}
-use Rattle.lv_ast.specs.Names.{Name, Valuation}
+use Rattle.lv_ast.specs.Names.{Name}
+use Rattle.lv_source.specs.Names.{Valuation}
 use Rattle.lv_run.specs.FirstForm.{is_in}
 use Rattle.lv_run.specs.Formulas.{Assignment}
 use Rattle.lv_run.specs.Signals.{env_of, val_of, AreBits}

@@ -7,8 +7,9 @@ use Rattle.std.proofs.lemmas.Option.{slice_get_within, slice_get-get_or, slice_g
 use Rattle.lv_bits.specs.Values.{bit}
 use Rattle.lv_ast.specs.declared.expr.Expr.{Expr}
 use Rattle.lv_ast.specs.declared.stmt.Stmt.{Stmt}
-use Rattle.lv_ast.specs.Names.{Name, Names, Valuation}
-use Rattle.lv_ast.specs.Meaning.{own}
+use Rattle.lv_ast.specs.Names.{Name}
+use Rattle.lv_source.specs.Names.{Names, Valuation}
+use Rattle.lv_source.specs.Meaning.{own}
 use Rattle.lv_model.specs.Machine.{Machine}
 use Rattle.lv_model.specs.Design.{values, Eq, Aligned, MaybeHolds}
 use Rattle.lv_run.specs.declared.formula.Formula.{Formula}

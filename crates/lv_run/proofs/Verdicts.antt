@@ -4,7 +4,8 @@ use Rattle.std.specs.Prelude.{All, ◌↔◌}
 use Rattle.std.specs.List.{range_with_len}
 use Rattle.std.proofs.lemmas.List.Elements.{All-nil, All-cons}
 use Rattle.lv_ast.specs.declared.item.Module.{Module}
-use Rattle.lv_ast.specs.Names.{Name, Valuation}
+use Rattle.lv_ast.specs.Names.{Name}
+use Rattle.lv_source.specs.Names.{Valuation}
 use Rattle.lv_model.specs.Machine.{Machine, IsMet, Initial, Allowed, IsInductive, Implies}
 use Rattle.lv_model.proofs.Soundness.{sound}
 use Rattle.lv_run.specs.declared.answer.Answer.TheVariants as a

@@ -21,9 +21,10 @@ use Rattle.lv_ast.specs.declared.item.Watch.TheVariants as w
 use Rattle.lv_ast.specs.declared.item.Item.{Item}
 use Rattle.lv_ast.specs.declared.item.Item.TheVariants as i
 use Rattle.lv_ast.specs.declared.item.Module.{Module}
-use Rattle.lv_ast.specs.Names.{Name, Names, Declared, Valuation, Sort, Input, Variable, has_no_steps}
-use Rattle.lv_ast.specs.Meaning.{own}
-use Rattle.lv_ast.specs.Effect.{left_by}
+use Rattle.lv_ast.specs.Names.{Name, has_no_steps}
+use Rattle.lv_source.specs.Names.{Names, Declared, Valuation, Sort, Input, Variable}
+use Rattle.lv_source.specs.Meaning.{own}
+use Rattle.lv_source.specs.Effect.{left_by}
 use Rattle.lv_model.specs.Machine.{Machine}
 use Rattle.lv_model.specs.Design.{Design, Observers, Candidate, Eq, Aligned, machine_of}
 use Rattle.lv_run.specs.declared.observed.ObserverTrees.{ObserverTrees}

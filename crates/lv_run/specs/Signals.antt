@@ -14,9 +14,10 @@ use Rattle.lv_ast.specs.declared.item.Watch.TheVariants as w
 use Rattle.lv_ast.specs.declared.item.Aport.{Aport}
 use Rattle.lv_ast.specs.declared.item.Module.{Module}
 use Rattle.lv_ast.specs.declared.item.Item.{Item}
-use Rattle.lv_ast.specs.Names.{Name, Names, Valuation, Sort, is_signal_sort}
-use Rattle.lv_ast.specs.Meaning.{meaning}
-use Rattle.lv_ast.specs.Effect.{left_by}
+use Rattle.lv_ast.specs.Names.{Name}
+use Rattle.lv_source.specs.Names.{Names, Valuation, Sort, is_signal_sort}
+use Rattle.lv_source.specs.Meaning.{meaning}
+use Rattle.lv_source.specs.Effect.{left_by}
 use Rattle.lv_run.specs.declared.observed.ObserverTrees.{ObserverTrees}
 use Rattle.lv_run.specs.declared.problem.Problem.{Problem}
 use Rattle.lv_run.specs.declared.prepare.Watched.{Watched}

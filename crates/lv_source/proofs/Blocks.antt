@@ -1,7 +1,7 @@
 -- Small designs with blocks.
 use Rattle.std.specs.Fmt.{digits}
-use Rattle.lv_ast.specs.Meaning.{read_expr, read_select}
-use Rattle.lv_ast.specs.Effect.{pieces, executes, turns, turns_from}
+use Rattle.lv_source.specs.Meaning.{read_expr, read_select}
+use Rattle.lv_source.specs.Effect.{pieces, executes, turns, turns_from}
 use Rattle.lv_source.specs.Flow.{flow}
 use Rattle.lv_source.specs.Declarations.{labels}
 use Rattle.lv_source.specs.Parts.{as_target}
@@ -15,7 +15,7 @@ use Rattle.lv_ast.specs.declared.stmt.Stmt.TheVariants as b
 use Rattle.lv_ast.specs.declared.item.Item.{Item}
 use Rattle.lv_ast.specs.declared.item.Item.TheVariants as i
 use Rattle.lv_ast.specs.declared.item.Ports.TheVariants as p
-use Rattle.lv_ast.specs.Names.{Valuation}
+use Rattle.lv_source.specs.Names.{Valuation}
 use Rattle.lv_source.specs.Parts.{Design, parts, registers_of, inputs_of, after}
 use Rattle.lv_source.specs.Settled.{next_bit, idle_bits}
 use Rattle.lv_source.specs.Legal.{Latch, Port}

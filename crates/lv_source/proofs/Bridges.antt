@@ -4,9 +4,10 @@ use Rattle.std.specs.Prelude.{flat_map, filter, cond, find, take, drop, slice_ge
 use Rattle.std.specs.List.{list_any, list_all}
 use mathlib.Core.Path.{fun_ext}
 use Rattle.std.proofs.lemmas.List.Elements.{All-nil, All-cons, All-head, All-tail}
-use Rattle.lv_ast.specs.Names.{Name, Declared, Valuation, is_variable_sort, is_input_sort, is_clock_sort, is_signal_sort}
-use Rattle.lv_ast.specs.Places.{Bit, has_bit, whole, cells, bits_below, bit_at}
-use Rattle.lv_ast.specs.Effect.{Piece}
+use Rattle.lv_ast.specs.Names.{Name}
+use Rattle.lv_source.specs.Names.{Declared, Valuation, is_variable_sort, is_input_sort, is_clock_sort, is_signal_sort}
+use Rattle.lv_source.specs.Places.{Bit, has_bit, whole, cells, bits_below, bit_at}
+use Rattle.lv_source.specs.Effect.{Piece}
 use Rattle.lv_source.specs.Flow.{Event, event_writes}
 use Rattle.lv_source.specs.Summary.{leaves_latch, exposes_own}
 use Rattle.lv_source.specs.Parts.{Design, Part, Body, At, Assign, Comb, Clocked, parts, signals_of, drives, reads, is_clocked, is_comb, driven_by, read_by, is_register, is_wired, register_signals, width_from, numbered_from}

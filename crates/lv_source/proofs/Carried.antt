@@ -1,7 +1,7 @@
 -- A `case` whose labels are full for the selector's own width, but not for the width of the `case`: where it was taken as full, two valuations were settled.
 use Rattle.std.specs.Fmt.{digits}
-use Rattle.lv_ast.specs.Meaning.{read_expr, read_select}
-use Rattle.lv_ast.specs.Effect.{pieces, executes, turns, turns_from}
+use Rattle.lv_source.specs.Meaning.{read_expr, read_select}
+use Rattle.lv_source.specs.Effect.{pieces, executes, turns, turns_from}
 use Rattle.lv_source.specs.Flow.{flow}
 use Rattle.lv_source.specs.Declarations.{labels}
 use Rattle.lv_source.specs.Parts.{as_target}
@@ -12,7 +12,7 @@ use Rattle.lv_bits.specs.declared.op.Op.TheVariants as o
 use Rattle.lv_ast.specs.declared.expr.Expr.{Expr}
 use Rattle.lv_ast.specs.declared.stmt.Stmt.{Stmt}
 use Rattle.lv_ast.specs.declared.stmt.Stmt.TheVariants as b
-use Rattle.lv_ast.specs.Names.{Valuation}
+use Rattle.lv_source.specs.Names.{Valuation}
 use Rattle.lv_source.specs.Parts.{Design, parts, after}
 use Rattle.lv_source.specs.Legal.{Latch}
 use Rattle.lv_ast.proofs.Build.{name, bin, to, sized, bits, case_of, input, output_reg, module_of, clk, always_star, valued}
@@ -24,7 +24,7 @@ use Rattle.std.proofs.lemmas.List.Elements.{All-nil, All-from_recursion}
 use Rattle.lv_source.specs.Settled.{IsSettled}
 use Rattle.lv_source.specs.Parts.{Part, is_clocked}
 use Rattle.lv_ast.specs.Names.{Name}
-use Rattle.lv_ast.specs.Places.{Bit, bit_at}
+use Rattle.lv_source.specs.Places.{Bit, bit_at}
 use Rattle.std.specs.Prelude.{filter, not}
 
 -- always @* case (a + b) 4'd0: y = 0; .. 4'd3: y = 0; endcase, with a and b of two bits: the sum has more than two bits at the width of the labels

@@ -3,10 +3,10 @@ use Rattle.std.proofs.Common.{◌≡◌, Bool, true, false, ◌&&◌, ◌||◌, 
 use Rattle.std.specs.Prelude.{flat_map, if◌then◌else◌}
 use Rattle.std.specs.List.{list_any, list_all}
 use Rattle.lv_ast.specs.declared.expr.Expr.{Expr}
-use Rattle.lv_ast.specs.Names.{Names}
-use Rattle.lv_ast.specs.Places.{Bit}
-use Rattle.lv_ast.specs.Meaning.{read_expr}
-use Rattle.lv_ast.specs.Effect.{State, Effect, Label, Arm, ArmOf, Width, label_of, read_arm, is_default, all_labels, arm_labels, taken_of, common, common_of, selected_of, fits_label, is_match, case_effect}
+use Rattle.lv_source.specs.Names.{Names}
+use Rattle.lv_source.specs.Places.{Bit}
+use Rattle.lv_source.specs.Meaning.{read_expr}
+use Rattle.lv_source.specs.Effect.{State, Effect, Label, Arm, ArmOf, Width, label_of, read_arm, is_default, all_labels, arm_labels, taken_of, common, common_of, selected_of, fits_label, is_match, case_effect}
 use Rattle.lv_source.specs.Flow.{Event, Flow, Flows, looks, then_flow, no_match, is_full, is_full_of, is_extended, case_flow}
 use Rattle.lv_source.proofs.Tests.{any-map}
 

@@ -4,11 +4,11 @@ use Rattle.std.specs.Prelude.{flat_map, if◌then◌else◌, nat_le, bit_or}
 use Rattle.std.specs.List.{list_any, list_all, range_with_len}
 use Rattle.lv_bits.specs.Values.{extended}
 use Rattle.lv_ast.specs.declared.expr.Expr.{Expr}
-use Rattle.lv_ast.specs.Names.{Names, Valuation}
-use Rattle.lv_ast.specs.Values.{nowhere, own_value}
-use Rattle.lv_ast.specs.Places.{Bit, has_bit}
-use Rattle.lv_ast.specs.Meaning.{read_expr, meaning}
-use Rattle.lv_ast.specs.Effect.{State, Effect, ArmOf, is_default, all_labels, Label, Width, common, is_match, free_bits, fits_label, label_of}
+use Rattle.lv_source.specs.Names.{Names, Valuation}
+use Rattle.lv_source.specs.Values.{nowhere, own_value}
+use Rattle.lv_source.specs.Places.{Bit, has_bit}
+use Rattle.lv_source.specs.Meaning.{read_expr, meaning}
+use Rattle.lv_source.specs.Effect.{State, Effect, ArmOf, is_default, all_labels, Label, Width, common, is_match, free_bits, fits_label, label_of}
 use Rattle.lv_source.specs.Flow.{Event, Flows, is_full, is_extended}
 use Rattle.lv_source.proofs.CaseTrees.{arm_taken, all-map}
 use Rattle.lv_source.proofs.Each.{Each, Some', Pairs, each-left, each-right, each-join, some-left, some-right, some-split}

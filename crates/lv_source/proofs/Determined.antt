@@ -5,8 +5,9 @@ use Rattle.std.specs.List.{AllZip}
 use Rattle.std.proofs.lemmas.Bool.{cases_lt}
 use Rattle.std.proofs.lemmas.List.Elements.{All-nil, All-cons, All-head, All-tail}
 use Rattle.std.proofs.lemmas.Nat.Bits.{same_from_bits, bit_at_above}
-use Rattle.lv_ast.specs.Names.{Name, Valuation}
-use Rattle.lv_ast.specs.Places.{Bit, bit_at, has_bit, bits_below}
+use Rattle.lv_ast.specs.Names.{Name}
+use Rattle.lv_source.specs.Names.{Valuation}
+use Rattle.lv_source.specs.Places.{Bit, bit_at, has_bit, bits_below}
 use Rattle.lv_source.specs.Parts.{Design, registers_of, width_at}
 use Rattle.lv_source.specs.Settled.{IsSettled, Follows, SameOn, SameInputs, NextFollows, IsRun, StartAlike, next_bit}
 use Rattle.lv_source.specs.Legal.{IsLegal}

@@ -9,10 +9,11 @@ use Rattle.std.proofs.lemmas.List.{length-append}
 use Rattle.std.proofs.lemmas.List.Elements.{All-nil, All-cons}
 use Rattle.std.specs.List.{range_with_len}
 use Rattle.lv_source.specs.ScopeRules.{same_sign}
-use Rattle.lv_ast.specs.Names.{Sort, Input, Net, Variable, Clock, Constant, Index, Other}
-use Rattle.lv_ast.specs.Places.{bits_below}
-use Rattle.lv_ast.specs.Names.{Name, Declared, Valuation, width_of, is_variable_sort, is_input_sort}
-use Rattle.lv_ast.specs.Places.{Bit, bit_at, has_bit, same_bit, whole, cells}
+use Rattle.lv_source.specs.Names.{Sort, Input, Net, Variable, Clock, Constant, Index, Other}
+use Rattle.lv_source.specs.Places.{bits_below}
+use Rattle.lv_ast.specs.Names.{Name}
+use Rattle.lv_source.specs.Names.{Declared, Valuation, width_of, is_variable_sort, is_input_sort}
+use Rattle.lv_source.specs.Places.{Bit, bit_at, has_bit, same_bit, whole, cells}
 use Rattle.lv_source.specs.Parts.{Design, Part, At, Body, Assign, Comb, Clocked, parts, signals_of, inputs_of, registers_of, is_clocked, is_comb, drives, driven_by, read_by, after, is_register, is_wired, width_from, width_at}
 use Rattle.lv_source.specs.Settled.{IsSettled, SameOn, SameInputs, HasApartSignals}
 use Rattle.lv_source.specs.PartRules as r

@@ -3,8 +3,9 @@ use Rattle.std.proofs.Common.{◌≡◌, inl, inr, ℕ, zero, suc, ◌+◌, ◌<
 use Rattle.std.specs.Prelude.{flat_map, filter, cond, slice_get, All, bytes_eq}
 use Rattle.std.specs.List.{list_any}
 use Rattle.std.proofs.lemmas.List.Elements.{All-head, All-tail}
-use Rattle.lv_ast.specs.Names.{Name, Declared}
-use Rattle.lv_ast.specs.Places.{Bit, has_bit, same_bit, whole, cells}
+use Rattle.lv_ast.specs.Names.{Name}
+use Rattle.lv_source.specs.Names.{Declared}
+use Rattle.lv_source.specs.Places.{Bit, has_bit, same_bit, whole, cells}
 use Rattle.lv_source.specs.Flow.{Event}
 use Rattle.lv_source.specs.Parts.{Design, Part, At, parts, numbered_from, signals_of, is_comb}
 use Rattle.lv_source.specs.PartRules as r

@@ -2,17 +2,18 @@
 use Rattle.std.proofs.Common.{◌≡◌, ℕ, ◌+◌, ◌*◌, ◌^◌, ◌-◌, max, Bool, true, false, ◌&&◌, ◌==◌, List, [], ◌∷◌, ◌++◌, map, refl, ap, ◌∙◌, Option, Some, None}
 use Rattle.std.specs.Prelude.{pos, negsuc, ◌-ℤ◌, decimal}
 use Rattle.lv_bits.specs.Values.{signed_of}
-use Rattle.lv_ast.specs.Names.{Name, low, high, at_index}
-use Rattle.lv_ast.specs.Places.{within}
+use Rattle.lv_ast.specs.Names.{Name, at_index}
+use Rattle.lv_source.specs.Names.{low, high}
+use Rattle.lv_source.specs.Places.{within}
 use Rattle.std.specs.Prelude.{flat_map, if◌then◌else◌, ℤ}
 use Rattle.std.specs.List.{list_all}
 use Rattle.lv_bits.specs.declared.op.Op.{Op}
 use Rattle.lv_bits.specs.Values.{extended, unary_value, binary_value}
 use Rattle.lv_ast.specs.declared.expr.Expr.TheOpen.{Select-F}
-use Rattle.lv_ast.specs.Names.{Declared, Bounds, Valuation}
-use Rattle.lv_ast.specs.Values.{Meaning, own_value, nowhere, plain, one_bit, shift, arithmetic, logical, compared, chosen, replicated, divided, joined, repeated, widths, number_of}
-use Rattle.lv_ast.specs.Places.{Bit, Place, bit_at, has_bit, place_bits, some_bit, place_of, place_by, element, bits_of, bits_from, lowest, count_of, read, read_bits, nowhere_place}
-use Rattle.lv_ast.specs.Meaning.{Reading, Choice, reading, index_reads, all_constant, meant, parts_of}
+use Rattle.lv_source.specs.Names.{Declared, Bounds, Valuation}
+use Rattle.lv_source.specs.Values.{Meaning, own_value, nowhere, plain, one_bit, shift, arithmetic, logical, compared, chosen, replicated, divided, joined, repeated, widths, number_of}
+use Rattle.lv_source.specs.Places.{Bit, Place, bit_at, has_bit, place_bits, some_bit, place_of, place_by, element, bits_of, bits_from, lowest, count_of, read, read_bits, nowhere_place}
+use Rattle.lv_source.specs.Meaning.{Reading, Choice, reading, index_reads, all_constant, meant, parts_of}
 use Rattle.lv_source.proofs.Tests.{and-left, and-right, any-left, any-right, has-head}
 use Rattle.lv_source.proofs.Each.{Each}
 

@@ -17,14 +17,15 @@ use Rattle.lv_source.specs.Flow.{is_extended}
 use Rattle.std.proofs.Common.{pow-suc}
 use Rattle.std.specs.Prelude.{reverse, ◌+ℤ◌, decimal}
 use Rattle.std.proofs.lemmas.List.{length-map, length-reverse}
-use Rattle.lv_ast.specs.Names.{Bounds, low, high, width_of, at_index}
-use Rattle.lv_ast.specs.Values.{Chosen}
-use Rattle.lv_ast.specs.Places.{rising, falls, bit_place, lowest, count_of, nowhere_place, element, within, place_by}
+use Rattle.lv_ast.specs.Names.{at_index}
+use Rattle.lv_source.specs.Names.{Bounds, low, high, width_of}
+use Rattle.lv_source.specs.Values.{Chosen}
+use Rattle.lv_source.specs.Places.{rising, falls, bit_place, lowest, count_of, nowhere_place, element, within, place_by}
 use Rattle.lv_ast.specs.declared.expr.Expr.TheOpen.{Expr-F}
-use Rattle.lv_ast.specs.Names.{Names, Declared, Valuation, known}
-use Rattle.lv_ast.specs.Values.{Meaning, nowhere, size_of, plain, one_bit, shift, arithmetic, logical, compared, chosen, quotient, remainder, wrapped, own_value, joined, repeated, widths}
-use Rattle.lv_ast.specs.Places.{Place, place_of, bits_of, read_bits, held, read, bit_selects, all_bits, bits_from}
-use Rattle.lv_ast.specs.Meaning.{Reading, Choice, meanings, named, meant, read_step, choice, read_expr}
+use Rattle.lv_source.specs.Names.{Names, Declared, Valuation, known}
+use Rattle.lv_source.specs.Values.{Meaning, nowhere, size_of, plain, one_bit, shift, arithmetic, logical, compared, chosen, quotient, remainder, wrapped, own_value, joined, repeated, widths}
+use Rattle.lv_source.specs.Places.{Place, place_of, bits_of, read_bits, held, read, bit_selects, all_bits, bits_from}
+use Rattle.lv_source.specs.Meaning.{Reading, Choice, meanings, named, meant, read_step, choice, read_expr}
 use Rattle.lv_source.proofs.Each.{Each}
 use Rattle.lv_source.proofs.Induction.{Below, of_expr}
 

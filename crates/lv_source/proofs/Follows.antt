@@ -8,11 +8,11 @@ use Rattle.lv_ast.specs.declared.stmt.Stmt.{Stmt, Row_of-Stmt, end_of-Stmt, more
 use Rattle.lv_ast.specs.declared.stmt.Stmt.TheVariants as b
 use Rattle.lv_ast.specs.declared.stmt.Stmt.TheOpen.{Stmt-F}
 use Rattle.lv_ast.specs.Trees.{fold_stmt, fold_stmts, fold_one_stmt, fold_held, fold_arms}
-use Rattle.lv_ast.specs.Names.{Names, Valuation}
-use Rattle.lv_ast.specs.Values.{nowhere}
-use Rattle.lv_ast.specs.Places.{Bit, has_bit}
-use Rattle.lv_ast.specs.Meaning.{Reading, read_expr, meaning, constant_value}
-use Rattle.lv_ast.specs.Effect.{State, Effect, ArmOf, Piece, pieces, effect_step, arm_step, executes, in_order, each_turn, otherwise, is_set, is_default, all_labels, common, is_match, case_effect, with_index, turns}
+use Rattle.lv_source.specs.Names.{Names, Valuation}
+use Rattle.lv_source.specs.Values.{nowhere}
+use Rattle.lv_source.specs.Places.{Bit, has_bit}
+use Rattle.lv_source.specs.Meaning.{Reading, read_expr, meaning, constant_value}
+use Rattle.lv_source.specs.Effect.{State, Effect, ArmOf, Piece, pieces, effect_step, arm_step, executes, in_order, each_turn, otherwise, is_set, is_default, all_labels, common, is_match, case_effect, with_index, turns}
 use Rattle.lv_source.specs.Flow.{Event, event_surely, Flow, Flows, one, all_flows, branches, flow_or, flow_step, flow, no_match, is_full, case_flow}
 use Rattle.lv_source.proofs.CaseTrees.{arm_taken, unchanged, TreeCase, TreeFlow, case_is, flow_is}
 use Rattle.lv_source.proofs.Each.{Each, Pairs, each-left, each-right, each-join, some-left}

@@ -9,11 +9,12 @@ use Rattle.lv_ast.specs.declared.stmt.Stmt.{Stmt, Row_of-Stmt, end_of-Stmt, more
 use Rattle.lv_ast.specs.declared.stmt.Stmt.TheVariants as b
 use Rattle.lv_ast.specs.declared.stmt.Stmt.TheOpen.{Stmt-F}
 use Rattle.lv_ast.specs.Trees.{fold_stmt, fold_stmts, fold_one_stmt, fold_held, fold_arms}
-use Rattle.lv_ast.specs.Names.{Name, Names, Declared, Valuation, known, is_signal_sort}
-use Rattle.lv_ast.specs.Values.{nowhere}
-use Rattle.lv_ast.specs.Places.{Bit, Place, bit_at, has_bit, same_bit, some_bit, place_bits, place_of, set_bit, write_bits, write, whole}
-use Rattle.lv_ast.specs.Meaning.{Reading, Choice, read_expr, bits_named, all_constant, meant, constant_value}
-use Rattle.lv_ast.specs.Effect.{State, Effect, ArmOf, Piece, Update, pieces, aimed, piece_place, places, bits_in, write_all, assigned, effect_step, arm_step, executes, applied, left_by, in_order, each_turn, otherwise, is_set, is_default, with_index, turns}
+use Rattle.lv_ast.specs.Names.{Name}
+use Rattle.lv_source.specs.Names.{Names, Declared, Valuation, known, is_signal_sort}
+use Rattle.lv_source.specs.Values.{nowhere}
+use Rattle.lv_source.specs.Places.{Bit, Place, bit_at, has_bit, same_bit, some_bit, place_bits, place_of, set_bit, write_bits, write, whole}
+use Rattle.lv_source.specs.Meaning.{Reading, Choice, read_expr, bits_named, all_constant, meant, constant_value}
+use Rattle.lv_source.specs.Effect.{State, Effect, ArmOf, Piece, Update, pieces, aimed, piece_place, places, bits_in, write_all, assigned, effect_step, arm_step, executes, applied, left_by, in_order, each_turn, otherwise, is_set, is_default, with_index, turns}
 use Rattle.lv_source.specs.Flow.{Event, event_writes, event_surely, writes_of, Flow, Flows, still, then_flow, all_flows, looks, branches, flow_or, flow_step, flow, block_writes}
 use Rattle.lv_source.proofs.CaseTrees.{arm_taken, unchanged, case_is, flow_is}
 use Rattle.lv_source.proofs.Each.{Each, Pairs}

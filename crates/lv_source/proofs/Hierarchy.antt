@@ -1,7 +1,7 @@
 -- Constants, parameters, instances and generate loops.
 use Rattle.std.specs.Fmt.{digits}
-use Rattle.lv_ast.specs.Meaning.{read_expr, read_select}
-use Rattle.lv_ast.specs.Effect.{pieces, executes, turns, turns_from}
+use Rattle.lv_source.specs.Meaning.{read_expr, read_select}
+use Rattle.lv_source.specs.Effect.{pieces, executes, turns, turns_from}
 use Rattle.lv_source.specs.Flow.{flow}
 use Rattle.lv_source.specs.Declarations.{labels}
 use Rattle.lv_source.specs.Parts.{as_target}
@@ -16,8 +16,8 @@ use Rattle.lv_ast.specs.declared.item.Item.TheVariants as i
 use Rattle.lv_ast.specs.declared.item.Module.{Module}
 use Rattle.lv_ast.specs.declared.item.Params.{Params}
 use Rattle.lv_ast.specs.declared.item.Ports.TheVariants as p
-use Rattle.lv_ast.specs.Names.{Names, width_of}
-use Rattle.lv_ast.specs.Meaning.{constant_value}
+use Rattle.lv_source.specs.Names.{Names, width_of}
+use Rattle.lv_source.specs.Meaning.{constant_value}
 use Rattle.lv_source.specs.Parts.{Design, parts, scopes_of, signals_of, registers_of, inputs_of, after}
 use Rattle.lv_ast.proofs.Build.{id, name, bin, un, to, bit, chosen, plain, bits, input, output, output_reg, module_of, clk, at_clock, wire, wire_with, valued, turns_of, linked, ordered, width}
 use Rattle.lv_source.proofs.Build.{design_t, refused}

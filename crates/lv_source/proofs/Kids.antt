@@ -15,8 +15,9 @@ use Rattle.lv_ast.specs.declared.item.Module.{Module}
 use Rattle.lv_ast.specs.declared.item.Source.{Source}
 use Rattle.lv_ast.specs.declared.item.PortWord.TheVariants as w
 use Rattle.lv_ast.specs.Trees.{spread_all}
-use Rattle.lv_ast.specs.Names.{Name, Names, spelled, below, signed_decimal}
-use Rattle.lv_ast.specs.Effect.{turns, turns_from, index_value, with_index}
+use Rattle.lv_ast.specs.Names.{Name, spelled, below, signed_decimal}
+use Rattle.lv_source.specs.Names.{Names}
+use Rattle.lv_source.specs.Effect.{turns, turns_from, index_value, with_index}
 use Rattle.lv_source.specs.Declarations.{Thing, Direction, Wire, Reg, Parameter, Index, Instance, Label, Declaration, declare, of_item, of_items, declared_as}
 use Rattle.lv_source.specs.Scopes.{Scope, module_named, instance_scopes, instance_scope, turn_scope, names_at, children_by, counted_from, is_among}
 use Rattle.lv_source.specs.ScopeRules.{completes, is_pair, is_nil, place_if, declared_again, listed_ports, duplicates}

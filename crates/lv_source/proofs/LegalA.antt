@@ -1,7 +1,7 @@
 -- Design A is legal: nothing is refused, and no list of parts is a cycle.
 use Rattle.std.specs.Fmt.{digits}
-use Rattle.lv_ast.specs.Meaning.{read_expr, read_select}
-use Rattle.lv_ast.specs.Effect.{pieces, executes, turns, turns_from}
+use Rattle.lv_source.specs.Meaning.{read_expr, read_select}
+use Rattle.lv_source.specs.Effect.{pieces, executes, turns, turns_from}
 use Rattle.lv_source.specs.Flow.{flow}
 use Rattle.lv_source.specs.Declarations.{labels}
 use Rattle.lv_source.specs.Parts.{as_target}

@@ -9,6 +9,7 @@ pub mod DesignA
 pub mod DesignM
 pub mod Determined
 pub mod Each
+pub mod Effects
 pub mod Exists
 pub mod Facts
 pub mod Faithful
@@ -27,6 +28,7 @@ pub mod Pieces
 pub mod Pipeline
 pub mod PlainCases
 pub mod Provenance
+pub mod ReadingRules
 pub mod Readings
 pub mod Refusals
 pub mod Refused
@@ -39,5 +41,7 @@ pub mod Summaries
 pub mod Tests
 pub mod Trees
 pub mod Unique
+pub mod ValueRules
 pub mod Within
+pub mod Worked
 pub mod Writes

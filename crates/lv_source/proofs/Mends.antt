@@ -1,7 +1,7 @@
 -- Cases that earlier definitions missed, each with a small source and what is told of it.
 use Rattle.std.specs.Fmt.{digits}
-use Rattle.lv_ast.specs.Meaning.{read_expr, read_select, value_of}
-use Rattle.lv_ast.specs.Effect.{pieces, executes, turns, turns_from}
+use Rattle.lv_source.specs.Meaning.{read_expr, read_select, value_of}
+use Rattle.lv_source.specs.Effect.{pieces, executes, turns, turns_from}
 use Rattle.lv_source.specs.Flow.{flow}
 use Rattle.lv_source.specs.Declarations.{labels}
 use Rattle.lv_source.specs.Parts.{as_target}
@@ -20,7 +20,8 @@ use Rattle.lv_ast.specs.declared.item.Item.TheVariants as i
 use Rattle.lv_ast.specs.declared.item.Module.{Module}
 use Rattle.lv_ast.specs.declared.item.Ports.TheVariants as p
 use Rattle.lv_ast.specs.declared.item.Watch.TheVariants as w
-use Rattle.lv_ast.specs.Names.{Names, Sort, Constant, known, alone}
+use Rattle.lv_ast.specs.Names.{alone}
+use Rattle.lv_source.specs.Names.{Names, Sort, Constant, known}
 use Rattle.lv_source.specs.Parts.{Design, scopes_of}
 use Rattle.lv_source.specs.Legal.{UnknownName, ClockUse, ZeroDivisor, Duplicate, Port, Range, Nonblocking}
 use Rattle.lv_ast.proofs.Build.{id, name, bin, cat, path, div, plain, sized, bits, input, output, output_reg, module_of, clk, always_star, linked}

@@ -7,11 +7,11 @@ use Rattle.lv_ast.specs.declared.expr.Select.{Select}
 use Rattle.lv_ast.specs.declared.stmt.Target.{Target, Row_of-Target, end_of-Target, more_of-Target}
 use Rattle.lv_ast.specs.declared.stmt.Target.TheVariants as t
 use Rattle.lv_ast.specs.Trees.{fold_targets}
-use Rattle.lv_ast.specs.Names.{Names, Declared, Valuation, known, is_signal_sort}
-use Rattle.lv_ast.specs.Values.{nowhere}
-use Rattle.lv_ast.specs.Places.{Bit, Place, bit_at, has_bit, same_bit, place_bits, place_of, whole}
-use Rattle.lv_ast.specs.Meaning.{Reading, Choice, bits_named, index_reads, all_constant, meant, read_select}
-use Rattle.lv_ast.specs.Effect.{Piece, pieces, piece_step, piece_place, aimed, places, bits_in, write_all, assigned}
+use Rattle.lv_source.specs.Names.{Names, Declared, Valuation, known, is_signal_sort}
+use Rattle.lv_source.specs.Values.{nowhere}
+use Rattle.lv_source.specs.Places.{Bit, Place, bit_at, has_bit, same_bit, place_bits, place_of, whole}
+use Rattle.lv_source.specs.Meaning.{Reading, Choice, bits_named, index_reads, all_constant, meant, read_select}
+use Rattle.lv_source.specs.Effect.{Piece, pieces, piece_step, piece_place, aimed, places, bits_in, write_all, assigned}
 use Rattle.lv_source.specs.Flow.{writes_of}
 use Rattle.lv_source.specs.Parts.{Sink, sink_step, read_choice, read_layer, join_targets, as_target}
 use Rattle.lv_source.proofs.Each.{Each, each-join}

@@ -13,9 +13,10 @@ use Rattle.lv_ast.specs.declared.item.Inst.{Inst}
 use Rattle.lv_ast.specs.declared.item.Source.{Source}
 use Rattle.lv_ast.specs.declared.item.Watch.{Watch}
 use Rattle.lv_ast.specs.declared.item.Watch.TheVariants as w
-use Rattle.lv_ast.specs.Names.{Name, Names, alone}
-use Rattle.lv_ast.specs.Meaning.{Reading, read_expr}
-use Rattle.lv_ast.specs.Effect.{Piece, pieces}
+use Rattle.lv_ast.specs.Names.{Name, alone}
+use Rattle.lv_source.specs.Names.{Names}
+use Rattle.lv_source.specs.Meaning.{Reading, read_expr}
+use Rattle.lv_source.specs.Effect.{Piece, pieces}
 use Rattle.lv_source.specs.Scopes.{Scope, Link, module_named, instance_scopes}
 use Rattle.lv_source.specs.Parts.{Design, Part, Body, Assign, Comb, Clocked, part, net_part, output_part, link_body, link_part, instance_parts, always_body, item_parts, scope_parts, parts, scopes_of, whole_piece, whole_value, as_target, links_to, option_list}
 use Rattle.lv_source.proofs.Each.{Each, each-join}

@@ -5,10 +5,10 @@ use Rattle.lv_bits.specs.Values.{keeps_width, is_apart}
 use Rattle.lv_ast.specs.declared.expr.Expr.{Expr}
 use Rattle.lv_ast.specs.declared.expr.Expr.TheOpen.{Expr-F, Select-F}
 use Rattle.lv_ast.specs.declared.expr.Select.{Select}
-use Rattle.lv_ast.specs.Names.{Names, Declared, Valuation, Sort, Input, Net, Variable, Clock, Constant, Index, Other, known, is_constant_sort, is_signal_sort}
-use Rattle.lv_ast.specs.Values.{nowhere, literal, unary, binary, chosen, concatenated, replicated, cast, divided, quotient, remainder, own_value, joined, widths}
-use Rattle.lv_ast.specs.Places.{Bit, Place, has_bit, place_bits, place_of, held, read, whole}
-use Rattle.lv_ast.specs.Meaning.{Reading, Choice, meanings, named, bits_named, index_reads, all_constant, meant, read_step, choice, read_expr, read_select}
+use Rattle.lv_source.specs.Names.{Names, Declared, Valuation, Sort, Input, Net, Variable, Clock, Constant, Index, Other, known, is_constant_sort, is_signal_sort}
+use Rattle.lv_source.specs.Values.{nowhere, literal, unary, binary, chosen, concatenated, replicated, cast, divided, quotient, remainder, own_value, joined, widths}
+use Rattle.lv_source.specs.Places.{Bit, Place, has_bit, place_bits, place_of, held, read, whole}
+use Rattle.lv_source.specs.Meaning.{Reading, Choice, meanings, named, bits_named, index_reads, all_constant, meant, read_step, choice, read_expr, read_select}
 use Rattle.lv_source.proofs.Each.{Each}
 use Rattle.lv_source.proofs.Tests.{and-left, and-right}
 use Rattle.lv_source.proofs.Induction.{Below, Inside, of_expr, of_select}

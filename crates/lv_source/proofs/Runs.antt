@@ -2,9 +2,9 @@
 use Rattle.std.proofs.Common.{◌≡◌, inl, inr, Bool, true, false, ◌||◌, List, [], ◌∷◌, ◌++◌, map, refl, ap, ◌∙◌}
 use Rattle.std.specs.Prelude.{flat_map, if◌then◌else◌}
 use Rattle.std.specs.List.{list_any}
-use Rattle.lv_ast.specs.Names.{Valuation}
-use Rattle.lv_ast.specs.Places.{Bit, has_bit, same_bit}
-use Rattle.lv_ast.specs.Effect.{State}
+use Rattle.lv_source.specs.Names.{Valuation}
+use Rattle.lv_source.specs.Places.{Bit, has_bit, same_bit}
+use Rattle.lv_source.specs.Effect.{State}
 use Rattle.lv_source.specs.Flow.{Event, event_surely, Flow, still, then_flow, either_flow, looks, surely}
 use Rattle.lv_source.proofs.Each.{Each, Some', each-left, each-right, each-join, each-unmap, each-imp, some-left, some-right, some-map, some-imp}
 use Rattle.lv_source.proofs.Tests.{or-split, or-left, or-right, or-none_left, or-none_right, any-split}

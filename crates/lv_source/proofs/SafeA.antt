@@ -1,7 +1,7 @@
 -- Design A, read as Verilog, is safe.
 use Rattle.std.specs.Fmt.{digits}
-use Rattle.lv_ast.specs.Meaning.{read_expr, read_select}
-use Rattle.lv_ast.specs.Effect.{pieces, executes, turns, turns_from}
+use Rattle.lv_source.specs.Meaning.{read_expr, read_select}
+use Rattle.lv_source.specs.Effect.{pieces, executes, turns, turns_from}
 use Rattle.lv_source.specs.Flow.{flow}
 use Rattle.lv_source.specs.Declarations.{labels}
 use Rattle.lv_source.specs.Parts.{as_target}
@@ -12,8 +12,8 @@ use Rattle.std.specs.Prelude.{if◌then◌else◌, slice_index, codes, bytes_eq,
 use Rattle.std.proofs.lemmas.Bool.{eq-eqb, and_from}
 use Rattle.std.proofs.lemmas.List.Elements.{All-nil, All-cons, All-head, All-tail}
 use Rattle.lv_model.specs.Machine.{Machine, AllHold, AreCandidates, IsInductive, Implies, aligned_after}
-use Rattle.lv_ast.specs.Names.{Valuation}
-use Rattle.lv_ast.specs.Places.{Bit, bit_at}
+use Rattle.lv_source.specs.Names.{Valuation}
+use Rattle.lv_source.specs.Places.{Bit, bit_at}
 use Rattle.lv_source.specs.Settled.{next_bit, IsSettled, Follows}
 use Rattle.lv_source.specs.Observe.{Contract, machine, observed}
 use Rattle.lv_ast.proofs.Build.{name}

@@ -3,9 +3,9 @@ use Rattle.std.proofs.Common.{◌≡◌, inl, inr, Bool, true, false, ◌&&◌, 
 use Rattle.std.specs.Prelude.{flat_map}
 use Rattle.std.specs.List.{list_any}
 use Rattle.lv_ast.specs.declared.stmt.Stmt.{Stmt}
-use Rattle.lv_ast.specs.Names.{Names, Valuation}
-use Rattle.lv_ast.specs.Places.{Bit, bit_at, has_bit, same_bit}
-use Rattle.lv_ast.specs.Effect.{State, Update, executes, applied, left_by}
+use Rattle.lv_source.specs.Names.{Names, Valuation}
+use Rattle.lv_source.specs.Places.{Bit, bit_at, has_bit, same_bit}
+use Rattle.lv_source.specs.Effect.{State, Update, executes, applied, left_by}
 use Rattle.lv_source.specs.Flow.{Event, event_surely, Flow, flow, block_writes, block_reads, surely, is_latch, reads_first, is_read_first}
 use Rattle.lv_source.proofs.Each.{Each, Some'}
 use Rattle.lv_source.proofs.Tests.{and-both, or-split, or-left, or-right, or-none_left, or-none_right, any-split, decide, same_bits, not-false}

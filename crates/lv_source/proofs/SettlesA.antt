@@ -1,7 +1,7 @@
 -- The register that toggles has a settled valuation for each state and input.
 use Rattle.std.specs.Fmt.{digits}
-use Rattle.lv_ast.specs.Meaning.{read_expr, read_select}
-use Rattle.lv_ast.specs.Effect.{pieces, executes, turns, turns_from}
+use Rattle.lv_source.specs.Meaning.{read_expr, read_select}
+use Rattle.lv_source.specs.Effect.{pieces, executes, turns, turns_from}
 use Rattle.lv_source.specs.Flow.{flow}
 use Rattle.lv_source.specs.Declarations.{labels}
 use Rattle.lv_source.specs.Parts.{as_target}
@@ -10,8 +10,9 @@ use Rattle.lv_source.specs.Standing.{standing}
 use Rattle.std.proofs.Common.{◌≡◌, inl, inr, ℕ, zero, suc, ◌<◌, ◌^◌, true, false, ◌||◌, List, [], ◌∷◌, arith, ap, ◌∙◌, sym, Some}
 use Rattle.std.specs.Prelude.{codes, bytes_eq, slice_get}
 use Rattle.std.specs.List.{list_any}
-use Rattle.lv_ast.specs.Names.{Name, Declared, Valuation}
-use Rattle.lv_ast.specs.Places.{Bit, cells, has_bit}
+use Rattle.lv_ast.specs.Names.{Name}
+use Rattle.lv_source.specs.Names.{Declared, Valuation}
+use Rattle.lv_source.specs.Places.{Bit, cells, has_bit}
 use Rattle.lv_source.specs.Parts.{Part, signals_of, parts, drives, is_clocked, width_at, registers_of}
 use Rattle.lv_source.specs.Settled.{HasApartSignals, IsSettled, SameOn, SameInputs}
 use Rattle.lv_source.proofs.Tests.{same_name, or-split}

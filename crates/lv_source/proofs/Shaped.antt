@@ -11,8 +11,9 @@ use Rattle.lv_ast.specs.declared.item.Module.{Module}
 use Rattle.lv_ast.specs.declared.item.Range.{Range}
 use Rattle.lv_ast.specs.declared.item.Source.{Source}
 use Rattle.lv_ast.specs.Trees.{spread, spread_all}
-use Rattle.lv_ast.specs.Names.{Name, Names, Declared, Sort, Other, known, alone, spelled, below, with_name, is_signal_sort}
-use Rattle.lv_ast.specs.Names.{Index as Index_sort}
+use Rattle.lv_ast.specs.Names.{Name, alone, spelled, below}
+use Rattle.lv_source.specs.Names.{Names, Declared, Sort, Other, known, with_name, is_signal_sort}
+use Rattle.lv_source.specs.Names.{Index as Index_sort}
 use Rattle.lv_source.specs.Declarations.{Thing, Direction, Wire, Reg, Parameter, Index, Instance, Label, Declaration, of_item, of_items, of_module, module_items, of_params, of_ports, port_names, declared_as}
 use Rattle.lv_source.specs.Scopes.{Scope, Override, with_parameters, overridden, override_of, signal, other, place_among, stands_for, scope_names, sort_of, is_among, is_parameter, module_scope, turn_scope, no_names, module_named, overrides, clock_by, links, instance_scope, instance_scopes, is_one_bit_input, names_at, children, children_by, counted_from, scopes_within}
 use Rattle.lv_source.specs.Parts.{numbered_from, stands_here, put_by_place, by_place, scope_signals, Design, scopes_of, scopes_from, signals_of, depth, top_scope}
@@ -26,7 +27,7 @@ use Rattle.lv_source.proofs.Trees.{in-from, IsTold, HasCell, tree_apart}
 use Rattle.lv_source.proofs.Facts.{some_same}
 use Rattle.lv_source.proofs.FaultLaws.{append-right, scopes_clean}
 use Rattle.lv_source.specs.Legal.{IsLegal, Duplicate, modules_again}
-use Rattle.lv_ast.specs.Effect.{with_index, turns}
+use Rattle.lv_source.specs.Effect.{with_index, turns}
 use Rattle.lv_ast.specs.declared.item.Conn.{Conn}
 use Rattle.lv_ast.specs.declared.item.Inst.{Inst}
 use Rattle.lv_source.proofs.Kids.{Once, once, once-right, named_any, Headed, items_headed, items_differ, instance_if, mapped-from, in_index}

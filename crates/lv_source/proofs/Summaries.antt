@@ -6,11 +6,11 @@ use mathlib.Core.Path.{fun_ext}
 use Rattle.lv_ast.specs.declared.stmt.Stmt.{Stmt, Row_of-Stmt, end_of-Stmt, more_of-Stmt, Row_of-Arm, end_of-Arm, more_of-Arm, Held-Stmt-If-2, None', Some'}
 use Rattle.lv_ast.specs.declared.stmt.Stmt.TheVariants as b
 use Rattle.lv_ast.specs.Trees.{fold_stmt, fold_stmts, fold_one_stmt, fold_held, fold_arms}
-use Rattle.lv_ast.specs.Names.{Names}
-use Rattle.lv_ast.specs.Values.{nowhere}
-use Rattle.lv_ast.specs.Places.{Bit, has_bit, same_bit}
-use Rattle.lv_ast.specs.Meaning.{Reading, read_expr, index_reads}
-use Rattle.lv_ast.specs.Effect.{ArmOf, Arm, Label, Piece, pieces, arm_step, arm_labels, is_default, is_met, read_arm, label_of, with_index, turns}
+use Rattle.lv_source.specs.Names.{Names}
+use Rattle.lv_source.specs.Values.{nowhere}
+use Rattle.lv_source.specs.Places.{Bit, has_bit, same_bit}
+use Rattle.lv_source.specs.Meaning.{Reading, read_expr, index_reads}
+use Rattle.lv_source.specs.Effect.{ArmOf, Arm, Label, Piece, pieces, arm_step, arm_labels, is_default, is_met, read_arm, label_of, with_index, turns}
 use Rattle.lv_source.specs.Flow.{Event, event_writes, event_surely, Flow, Flows, one, still, looks, then_flow, either_flow, all_flows, branches, flow_or, flow_step, flow, if_flow, no_match, is_full_of, is_extended, case_flow_of, write_flow, block_writes, surely, is_latch, reads_first, is_read_first}
 use Rattle.lv_source.specs.Summary.{Summary, without, nothing_done, looked_at, then_summary, either_summary, all_summaries, any_summary, write_summary, branch_summary, if_summary, no_match_summary, case_summary_of, Summaries, summary_or, summary_step, summary, leaves_latch, exposes_own}
 use Rattle.lv_source.proofs.Each.{Pairs, some-left}

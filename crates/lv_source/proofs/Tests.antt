@@ -4,7 +4,7 @@ use Rattle.std.specs.Prelude.{bytes_eq}
 use Rattle.std.specs.List.{list_any, range_with_len}
 use Rattle.std.proofs.lemmas.Bool.{eq-eqb, eqb-true}
 use Rattle.lv_ast.specs.Names.{Name}
-use Rattle.lv_ast.specs.Places.{Bit, same_bit, has_bit}
+use Rattle.lv_source.specs.Places.{Bit, same_bit, has_bit}
 
 pub and-left : (a b : Bool) → (a && b) ≡ true → a ≡ true
 and-left true b h = refl

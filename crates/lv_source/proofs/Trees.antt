@@ -7,8 +7,9 @@ use Rattle.std.specs.Prelude.{pos, negsuc, ℤ, if◌then◌else◌}
 use Rattle.std.specs.Fmt.{digits, digits_onto, digit_glyph}
 use Rattle.std.proofs.lemmas.Bool.{eqb-true}
 use Rattle.std.proofs.lemmas.Bool.Decides.{nat_tests}
-use Rattle.lv_ast.specs.Names.{Name, Bounds, Declared, known, alone, is_simple, spelled, below, at_index, signed_decimal}
-use Rattle.lv_ast.specs.Places.{cells, cells_by}
+use Rattle.lv_ast.specs.Names.{Name, alone, is_simple, spelled, below, at_index, signed_decimal}
+use Rattle.lv_source.specs.Names.{Bounds, Declared, known}
+use Rattle.lv_source.specs.Places.{cells, cells_by}
 use Rattle.lv_source.specs.Scopes.{Scope, children, scopes_within}
 use Rattle.lv_source.specs.Parts.{scope_signals}
 use Rattle.lv_source.proofs.Tests.{or-split, same_name, decide}

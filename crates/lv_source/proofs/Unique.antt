@@ -6,10 +6,11 @@ use Rattle.std.proofs.lemmas.Bool.{cases_lt, eqb-true}
 use Rattle.std.proofs.lemmas.Nat.Bits.{same_from_bits, bit_at_above}
 use Rattle.std.proofs.lemmas.List.{length-append}
 use mathlib.Core.Path.{fun_ext}
-use Rattle.lv_ast.specs.Names.{Name, Declared, Valuation, width_of, is_variable_sort, is_input_sort}
-use Rattle.lv_ast.specs.Places.{Bit, bit_at, has_bit, same_bit, whole, cells}
-use Rattle.lv_ast.specs.Meaning.{all_constant}
-use Rattle.lv_ast.specs.Effect.{Piece}
+use Rattle.lv_ast.specs.Names.{Name}
+use Rattle.lv_source.specs.Names.{Declared, Valuation, width_of, is_variable_sort, is_input_sort}
+use Rattle.lv_source.specs.Places.{Bit, bit_at, has_bit, same_bit, whole, cells}
+use Rattle.lv_source.specs.Meaning.{all_constant}
+use Rattle.lv_source.specs.Effect.{Piece}
 use Rattle.lv_source.specs.Flow.{writes_of}
 use Rattle.lv_source.specs.Parts.{Design, Part, At, Body, Assign, Comb, Clocked, parts, signals_of, inputs_of, registers_of, is_clocked, is_comb, drives, reads, driven_by, read_by, after, is_register, is_wired, width_from, width_at}
 use Rattle.lv_source.specs.Settled.{IsSettled, SameOn, SameInputs}

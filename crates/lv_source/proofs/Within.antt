@@ -3,9 +3,10 @@ use Rattle.std.proofs.Common.{◌≡◌, inl, inr, ℕ, zero, suc, ◌+◌, ◌-
 use Rattle.std.specs.Prelude.{flat_map, bytes_eq, if◌then◌else◌, ℤ, pos, negsuc, decimal, reverse, nat_lt}
 use Rattle.std.specs.List.{list_any, range_with_len}
 use Rattle.std.proofs.lemmas.Bool.Decides.{nat_tests}
-use Rattle.lv_ast.specs.Names.{Name, Bounds, Declared, Valuation, low, high, size, width_of, at_index}
-use Rattle.lv_ast.specs.Values.{Chosen}
-use Rattle.lv_ast.specs.Places.{Bit, Place, has_bit, same_bit, some_bit, place_bits, place_of, place_by, element, bits_of, bit_place, all_bits, falls, within, rising, lowest, count_of, whole, cells, cells_by, bits_below, nowhere_place}
+use Rattle.lv_ast.specs.Names.{Name, at_index}
+use Rattle.lv_source.specs.Names.{Bounds, Declared, Valuation, low, high, size, width_of}
+use Rattle.lv_source.specs.Values.{Chosen}
+use Rattle.lv_source.specs.Places.{Bit, Place, has_bit, same_bit, some_bit, place_bits, place_of, place_by, element, bits_of, bit_place, all_bits, falls, within, rising, lowest, count_of, whole, cells, cells_by, bits_below, nowhere_place}
 use Rattle.lv_source.proofs.Each.{Each, each-imp, each-join}
 use Rattle.lv_source.proofs.Tests.{or-split, or-left, any-left, any-right, any-map, any-range, name-itself, same_name, bit-itself, same_bits}
 

@@ -5,9 +5,10 @@ use Rattle.std.proofs.lemmas.Bool.{eqb-true, eq-eqb, cases_lt}
 use Rattle.std.proofs.lemmas.Nat.{pow_pos, shr_split}
 use Rattle.std.proofs.lemmas.Nat.Bits.{bit_at_cat_low, bit_at_cat_high, bit_at-suc}
 use Rattle.std.proofs.lemmas.Nat.{pow-add}
-use Rattle.lv_ast.specs.Names.{Name, Valuation}
-use Rattle.lv_ast.specs.Places.{Bit, Place, bit_at, has_bit, same_bit, some_bit, place_bits, set_bit, write_bits, write}
-use Rattle.lv_ast.specs.Effect.{write_all, bits_in}
+use Rattle.lv_ast.specs.Names.{Name}
+use Rattle.lv_source.specs.Names.{Valuation}
+use Rattle.lv_source.specs.Places.{Bit, Place, bit_at, has_bit, same_bit, some_bit, place_bits, set_bit, write_bits, write}
+use Rattle.lv_source.specs.Effect.{write_all, bits_in}
 use Rattle.lv_source.proofs.Tests.{or-split, and-left, and-right, any-split, same_name, name-itself}
 
 abbrev pub bit_of : ℕ → ℕ → ℕ

@@ -15,7 +15,7 @@ use Rattle.lv_ast.specs.declared.item.Ports.TheVariants as p
 use Rattle.lv_ast.specs.declared.item.Module.{Module}
 use Rattle.lv_ast.specs.Trees.{fold_stmt, spread}
 use Rattle.lv_ast.specs.Names.{Name}
-use Rattle.lv_ast.specs.Effect.{ArmOf, arm_step}
+use Rattle.lv_source.specs.Effect.{ArmOf, arm_step}
 
 pub data Thing : Type 0 where
   Direction : (output : Bool) → (word : PortWord) → (signed : Bool) → (range : Option Range) → Thing

@@ -7,12 +7,12 @@ use Rattle.lv_ast.specs.declared.expr.Expr.{Expr}
 use Rattle.lv_ast.specs.declared.stmt.Target.{Target}
 use Rattle.lv_ast.specs.declared.stmt.Stmt.{Stmt}
 use Rattle.lv_ast.specs.declared.stmt.Stmt.TheOpen.{Stmt-F}
-use Rattle.lv_ast.specs.Values.{nowhere}
+use Rattle.lv_source.specs.Values.{nowhere}
 use Rattle.lv_ast.specs.Trees.{fold_stmt}
-use Rattle.lv_ast.specs.Names.{Names, known}
-use Rattle.lv_ast.specs.Places.{Bit, has_bit}
-use Rattle.lv_ast.specs.Meaning.{Reading, read_expr, all_constant, bits_named, index_reads}
-use Rattle.lv_ast.specs.Effect.{Piece, pieces, Label, Arm, Width, common_of, fits_label, arm_labels, label_of, read_arm, is_met, ArmOf, arm_step, is_default, with_index, turns}
+use Rattle.lv_source.specs.Names.{Names, known}
+use Rattle.lv_source.specs.Places.{Bit, has_bit}
+use Rattle.lv_source.specs.Meaning.{Reading, read_expr, all_constant, bits_named, index_reads}
+use Rattle.lv_source.specs.Effect.{Piece, pieces, Label, Arm, Width, common_of, fits_label, arm_labels, label_of, read_arm, is_met, ArmOf, arm_step, is_default, with_index, turns}
 
 -- a step of a path: what it reads, and then the target that it writes, at once or after the block
 pub record Event : Type 0 where

@@ -1,7 +1,8 @@
 -- The kinds of refusal, where each one holds, and when a source is legal.
 use Rattle.std.specs.Prelude.{codes, ◌≡◌, ℕ, if◌then◌else◌, List, [], ◌∷◌, ◌++◌, map, bytes_eq, Some, None, flat_map, Contains, IsTrue}
 use Rattle.lv_ast.specs.declared.item.Module.{Module}
-use Rattle.lv_ast.specs.Names.{Name, spelled, known, alone, is_clock_sort}
+use Rattle.lv_ast.specs.Names.{Name, spelled, alone}
+use Rattle.lv_source.specs.Names.{known, is_clock_sort}
 use Rattle.lv_source.specs.Scopes.{Scope, module_named}
 use Rattle.lv_source.specs.Parts.{Design, Part, At, parts, scopes_of, top_scope, numbered_from}
 use Rattle.lv_source.specs.ScopeRules as s

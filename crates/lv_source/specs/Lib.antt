@@ -1,12 +1,16 @@
 pub mod Declarations
+pub mod Effect
 pub mod Faults
 pub mod Flow
 pub mod Legal
 pub mod Limits
+pub mod Meaning
+pub mod Names
 pub mod NodeRules
 pub mod Observe
 pub mod PartRules
 pub mod Parts
+pub mod Places
 pub mod PlainNames
 pub mod ScopeRules
 pub mod Scopes
@@ -14,4 +18,5 @@ pub mod Settled
 pub mod Sites
 pub mod Standing
 pub mod Summary
+pub mod Values
 pub mod Views

@@ -14,8 +14,8 @@ use Rattle.lv_ast.specs.declared.item.Params.{Params}
 use Rattle.lv_ast.specs.declared.item.Ports.{Ports}
 use Rattle.lv_ast.specs.declared.item.Ports.TheVariants as p
 use Rattle.lv_ast.specs.Trees.{fold_expr, fold_select, fold_target, fold_stmt}
-use Rattle.lv_ast.specs.Names.{Names}
-use Rattle.lv_ast.specs.Effect.{ArmOf, arm_step, with_index, turns}
+use Rattle.lv_source.specs.Names.{Names}
+use Rattle.lv_source.specs.Effect.{ArmOf, arm_step, with_index, turns}
 use Rattle.lv_source.specs.Scopes.{Scope}
 use Rattle.lv_source.specs.Parts.{Design, parts, scopes_of}
 use Rattle.lv_source.specs.Settled.{register_bits}

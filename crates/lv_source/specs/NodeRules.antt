@@ -3,9 +3,9 @@ use Rattle.std.specs.Prelude.{ℕ, ◌^◌, Bool, true, false, not, ◌&&◌, �
 use Rattle.std.specs.List.{list_all}
 use Rattle.lv_ast.specs.declared.expr.Literal.{Literal}
 use Rattle.lv_ast.specs.declared.expr.Expr.TheOpen.{Expr-F, Select-F}
-use Rattle.lv_ast.specs.Names.{Sort, Index, Other, Declared, Bounds, known, is_constant_sort, is_clock_sort}
-use Rattle.lv_ast.specs.Values.{own_value, number_of, nowhere}
-use Rattle.lv_ast.specs.Places.{falls, count_of, bit_selects}
+use Rattle.lv_source.specs.Names.{Sort, Index, Other, Declared, Bounds, known, is_constant_sort, is_clock_sort}
+use Rattle.lv_source.specs.Values.{own_value, number_of, nowhere}
+use Rattle.lv_source.specs.Places.{falls, count_of, bit_selects}
 use Rattle.lv_source.specs.Sites.{Shown, Step, Role, Value, Joined, Written, Driven, DrivenJoined, Site, first_of, first_place}
 
 -- ---- numbers

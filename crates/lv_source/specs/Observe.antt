@@ -4,9 +4,10 @@ use Rattle.lv_ast.specs.declared.expr.Expr.{Expr}
 use Rattle.lv_model.specs.Machine.{Machine}
 use Rattle.lv_model.specs.Design.{Observers, Candidate, Eq, When, Each, Aligned, machine_of}
 use Rattle.lv_model.specs.Design.{Design as ModelDesign}
-use Rattle.lv_ast.specs.Names.{Names, Declared, Valuation, path_text}
-use Rattle.lv_ast.specs.Places.{Bit, has_bit, whole}
-use Rattle.lv_ast.specs.Meaning.{read_expr, own}
+use Rattle.lv_ast.specs.Names.{path_text}
+use Rattle.lv_source.specs.Names.{Names, Declared, Valuation}
+use Rattle.lv_source.specs.Places.{Bit, has_bit, whole}
+use Rattle.lv_source.specs.Meaning.{read_expr, own}
 use Rattle.lv_source.specs.Parts.{Design, Part, parts, signals_of, registers_of, is_clocked, drives, reads}
 use Rattle.lv_source.specs.Sites.{Site, expr_sites}
 use Rattle.lv_source.specs.NodeRules.{unknown_name, not_constant, zero_divisor, out_of_range}

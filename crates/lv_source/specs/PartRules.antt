@@ -1,10 +1,11 @@
 -- The rules that the parts of a design can break, one by one, each with the places where it is told.
 use Rattle.std.specs.Prelude.{ℕ, suc, Bool, true, false, not, ◌&&◌, ◌||◌, if◌then◌else◌, ◌==◌, List, [], ◌∷◌, ◌++◌, map, take, drop, Some, None, flat_map, filter, slice_get}
 use Rattle.std.specs.List.{list_any, list_all}
-use Rattle.lv_ast.specs.Names.{Declared, known, alone, is_variable_sort, is_input_sort, is_clock_sort, is_signal_sort}
-use Rattle.lv_ast.specs.Places.{Bit, has_bit, whole}
-use Rattle.lv_ast.specs.Meaning.{all_constant}
-use Rattle.lv_ast.specs.Effect.{Piece}
+use Rattle.lv_ast.specs.Names.{alone}
+use Rattle.lv_source.specs.Names.{Declared, known, is_variable_sort, is_input_sort, is_clock_sort, is_signal_sort}
+use Rattle.lv_source.specs.Places.{Bit, has_bit, whole}
+use Rattle.lv_source.specs.Meaning.{all_constant}
+use Rattle.lv_source.specs.Effect.{Piece}
 use Rattle.lv_source.specs.Flow.{Event, event_writes, flow, writes_of, is_latch, is_read_first}
 use Rattle.lv_source.specs.Parts.{Design, Part, At, Assign, Comb, Clocked, signals_of, drives, reads, is_clocked, is_comb, driven_by, is_wired}
 use Rattle.lv_source.specs.ScopeRules.{same_sign}

@@ -15,10 +15,11 @@ use Rattle.lv_ast.specs.declared.item.Inst.{Inst}
 use Rattle.lv_ast.specs.declared.item.Module.{Module}
 use Rattle.lv_ast.specs.declared.item.Source.{Source}
 use Rattle.lv_ast.specs.Trees.{fold_expr, count_items}
-use Rattle.lv_ast.specs.Names.{Name, Names, Declared, Valuation, known, width_of, alone, is_signal_sort, is_variable_sort, is_input_sort, is_clock_sort}
-use Rattle.lv_ast.specs.Places.{Bit, Place, has_bit, cells, whole}
-use Rattle.lv_ast.specs.Meaning.{Reading, Choice, is_nil, read_expr, read_step, index_reads}
-use Rattle.lv_ast.specs.Effect.{Piece, pieces, places, bits_in, write_all, assigned, left_by}
+use Rattle.lv_ast.specs.Names.{Name, alone}
+use Rattle.lv_source.specs.Names.{Names, Declared, Valuation, known, width_of, is_signal_sort, is_variable_sort, is_input_sort, is_clock_sort}
+use Rattle.lv_source.specs.Places.{Bit, Place, has_bit, cells, whole}
+use Rattle.lv_source.specs.Meaning.{Reading, Choice, is_nil, read_expr, read_step, index_reads}
+use Rattle.lv_source.specs.Effect.{Piece, pieces, places, bits_in, write_all, assigned, left_by}
 use Rattle.lv_source.specs.Flow.{flow, writes_of, block_writes, block_reads}
 use Rattle.lv_source.specs.Declarations.{Declaration, port_names, declared_as}
 use Rattle.lv_source.specs.Scopes.{Scope, module_scope, module_named, instance_scopes, scopes_within, links, Link, is_clock, is_output, is_direction}

@@ -6,7 +6,7 @@ use Rattle.lv_ast.specs.declared.item.Item.TheVariants as i
 use Rattle.lv_ast.specs.declared.item.Module.{Module}
 use Rattle.lv_ast.specs.declared.item.Source.{Source}
 use Rattle.lv_ast.specs.Names.{Name}
-use Rattle.lv_ast.specs.Places.{Bit, has_bit}
+use Rattle.lv_source.specs.Places.{Bit, has_bit}
 use Rattle.lv_source.specs.Parts.{Design, Part, parts, is_clocked, drives, width_at}
 use Rattle.lv_source.specs.Declarations.{Declaration, of_params, of_ports, of_item}
 

@@ -15,8 +15,9 @@ use Rattle.lv_ast.specs.declared.item.Ports.TheVariants as p
 use Rattle.lv_ast.specs.declared.item.PortWord.TheVariants as w
 use Rattle.lv_ast.specs.declared.item.Source.{Source}
 use Rattle.lv_ast.specs.declared.item.Watch.TheVariants as v
-use Rattle.lv_ast.specs.Names.{Name, Names, Sort, Input, Net, Variable, Clock, Constant, Other, Declared, Bounds, known, alone, size, width_of, is_signal_sort, is_clock_sort}
-use Rattle.lv_ast.specs.Names.{Index as IndexSort}
+use Rattle.lv_ast.specs.Names.{Name, alone}
+use Rattle.lv_source.specs.Names.{Names, Sort, Input, Net, Variable, Clock, Constant, Other, Declared, Bounds, known, size, width_of, is_signal_sort, is_clock_sort}
+use Rattle.lv_source.specs.Names.{Index as IndexSort}
 use Rattle.lv_source.specs.Declarations.{Thing, Direction, Wire, Reg, Parameter, Index, Instance, Label, Declaration, port_names, declared_as}
 use Rattle.lv_source.specs.Scopes.{Scope, module_named, instance_scopes, is_among, is_direction, is_output, links, Link, settable_in, setting_width, is_clock, bound_number, range_bounds, names_at, counted_items}
 use Rattle.lv_source.specs.Parts.{numbered_from, as_target}

@@ -18,12 +18,13 @@ use Rattle.lv_ast.specs.declared.item.Module.{Module}
 use Rattle.lv_ast.specs.declared.item.Source.{Source}
 use Rattle.lv_ast.specs.declared.item.Ports.{Ports}
 use Rattle.lv_ast.specs.declared.item.Ports.TheVariants as p
-use Rattle.lv_ast.specs.Values.{Meaning, number_of, nowhere}
+use Rattle.lv_source.specs.Values.{Meaning, number_of, nowhere}
 use Rattle.lv_ast.specs.Trees.{spread_all}
-use Rattle.lv_ast.specs.Names.{Name, Bounds, Sort, Input, Net, Variable, Clock, Constant, Other, Declared, Names, no_declaration, known, size, width_of, spelled, signed_decimal, at_index, below, has_no_steps, with_name, alone, is_clock_sort}
-use Rattle.lv_ast.specs.Names.{Index as Index_sort}
-use Rattle.lv_ast.specs.Meaning.{meaning}
-use Rattle.lv_ast.specs.Effect.{assigned, turns, with_index}
+use Rattle.lv_ast.specs.Names.{Name, spelled, signed_decimal, at_index, below, has_no_steps, alone}
+use Rattle.lv_source.specs.Names.{Bounds, Sort, Input, Net, Variable, Clock, Constant, Other, Declared, Names, no_declaration, known, size, width_of, with_name, is_clock_sort}
+use Rattle.lv_source.specs.Names.{Index as Index_sort}
+use Rattle.lv_source.specs.Meaning.{meaning}
+use Rattle.lv_source.specs.Effect.{assigned, turns, with_index}
 use Rattle.lv_source.specs.Declarations.{Direction, Wire, Reg, Parameter, Index, Instance, Label, Declaration, of_item, of_items, of_module, module_items, port_names, declared_as}
 
 pub record Scope : Type 0 where

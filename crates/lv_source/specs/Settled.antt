@@ -1,8 +1,9 @@
 -- Settled valuations, the next state, and runs.
 use Rattle.std.specs.Prelude.{◌≡◌, ℕ, ◌<◌, ◌^◌, not, ◌&&◌, List, [], ◌∷◌, Option, Some, None, All, flat_map, filter, find, slice_get, bytes_eq, true, false}
 use Rattle.std.specs.List.{list_any}
-use Rattle.lv_ast.specs.Names.{Name, Declared, Valuation}
-use Rattle.lv_ast.specs.Places.{Bit, has_bit, whole, cells, bits_below, bit_at}
+use Rattle.lv_ast.specs.Names.{Name}
+use Rattle.lv_source.specs.Names.{Declared, Valuation}
+use Rattle.lv_source.specs.Places.{Bit, has_bit, whole, cells, bits_below, bit_at}
 use Rattle.lv_source.specs.Parts.{Design, Part, parts, signals_of, inputs_of, registers_of, after, drives, is_clocked, is_wired, driven_by, read_by, width_at}
 
 -- bits that nothing drives and nothing reads

@@ -6,9 +6,9 @@ use Rattle.lv_ast.specs.declared.stmt.Target.{Target}
 use Rattle.lv_ast.specs.declared.stmt.Stmt.{Stmt}
 use Rattle.lv_ast.specs.declared.stmt.Stmt.TheOpen.{Stmt-F}
 use Rattle.lv_ast.specs.Trees.{fold_stmt}
-use Rattle.lv_ast.specs.Names.{Names}
-use Rattle.lv_ast.specs.Values.{nowhere}
-use Rattle.lv_ast.specs.Effect.{ArmOf, arm_step, common, Width, pieces, places, bits_in, with_index, index_value, turns}
+use Rattle.lv_source.specs.Names.{Names}
+use Rattle.lv_source.specs.Values.{nowhere}
+use Rattle.lv_source.specs.Effect.{ArmOf, arm_step, common, Width, pieces, places, bits_in, with_index, index_value, turns}
 use Rattle.lv_source.specs.Sites.{Value, Written, Site, walk, expr_sites, target_sites}
 
 -- a statement without what stands in it

@@ -5,12 +5,12 @@ use Rattle.std.specs.List.{list_any}
 use Rattle.lv_ast.specs.declared.expr.Expr.{Expr}
 use Rattle.lv_ast.specs.declared.stmt.Stmt.{Stmt}
 use Rattle.lv_ast.specs.declared.stmt.Stmt.TheOpen.{Stmt-F}
-use Rattle.lv_ast.specs.Values.{nowhere}
+use Rattle.lv_source.specs.Values.{nowhere}
 use Rattle.lv_ast.specs.Trees.{fold_stmt}
-use Rattle.lv_ast.specs.Names.{Names}
-use Rattle.lv_ast.specs.Places.{Bit, has_bit}
-use Rattle.lv_ast.specs.Meaning.{Reading, read_expr, all_constant, index_reads}
-use Rattle.lv_ast.specs.Effect.{Piece, pieces, Label, Arm, arm_labels, read_arm, is_met, is_default, ArmOf, arm_step, with_index, turns}
+use Rattle.lv_source.specs.Names.{Names}
+use Rattle.lv_source.specs.Places.{Bit, has_bit}
+use Rattle.lv_source.specs.Meaning.{Reading, read_expr, all_constant, index_reads}
+use Rattle.lv_source.specs.Effect.{Piece, pieces, Label, Arm, arm_labels, read_arm, is_met, is_default, ArmOf, arm_step, with_index, turns}
 use Rattle.lv_source.specs.Flow.{writes_of, is_extended, is_full_of}
 
 pub record Summary : Type 0 where

@@ -1,10 +1,11 @@
 -- What the rules on parts, settled valuations and the next state depend on: the signals, and a view of each part, without trees and names.
 use Rattle.std.specs.Prelude.{◌≡◌, ◌↔◌, ℕ, ◌<◌, ◌^◌, Bool, true, false, not, ◌&&◌, ◌||◌, if◌then◌else◌, ◌==◌, List, [], ◌∷◌, ◌++◌, map, Option, Some, None, All, flat_map, filter, find, slice_get}
 use Rattle.std.specs.List.{list_any, list_all}
-use Rattle.lv_ast.specs.Names.{Name, Sort, Declared, Valuation, known, alone, is_variable_sort, is_input_sort, is_clock_sort, is_signal_sort}
-use Rattle.lv_ast.specs.Places.{Bit, has_bit, whole, cells, bits_below, bit_at}
-use Rattle.lv_ast.specs.Meaning.{all_constant, bits_named}
-use Rattle.lv_ast.specs.Effect.{Piece}
+use Rattle.lv_ast.specs.Names.{Name, alone}
+use Rattle.lv_source.specs.Names.{Sort, Declared, Valuation, known, is_variable_sort, is_input_sort, is_clock_sort, is_signal_sort}
+use Rattle.lv_source.specs.Places.{Bit, has_bit, whole, cells, bits_below, bit_at}
+use Rattle.lv_source.specs.Meaning.{all_constant, bits_named}
+use Rattle.lv_source.specs.Effect.{Piece}
 use Rattle.lv_source.specs.Flow.{Event}
 use Rattle.lv_source.specs.Summary.{Summary, nothing_done, summary, leaves_latch, exposes_own}
 use Rattle.lv_source.specs.Parts.{Design, Part, Body, At, Assign, Comb, Clocked, parts, signals_of, drives, reads, after, register_signals, width_from, numbered_from}

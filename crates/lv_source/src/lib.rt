@@ -1,10 +1,11 @@
-//! The meaning of a whole source: names, constants, scopes, signals, parts, settled valuations, runs, refusals, limits and
-//! observers, after IEEE 1364-2005. Each function below does nothing: its contract is a law of these definitions.
+//! The meaning of expressions, statements and a whole source: names, values, effects, scopes, parts, settled valuations, runs,
+//! refusals, limits and observers, after IEEE 1364-2005. Each function below does nothing: its contract is a law of these definitions.
 #![tactic(auto)]
 
 ghost use Rattle.std.specs.Prelude.{◌≡◌, ◌↔◌, ◌<◌, ◌^◌, ℕ, List, Contains};
 ghost use Rattle.std.specs.List.{AllZip};
-ghost use Rattle.lv_ast.specs.Names.{Name, Names, Valuation};
+ghost use Rattle.lv_ast.specs.Names.{Name};
+ghost use Rattle.lv_source.specs.Names.{Names, Valuation};
 ghost use Rattle.lv_source.specs.Parts.{Design, At, scopes_of, registers_of, width_at};
 ghost use Rattle.lv_source.specs.Settled.{IsSettled, Follows, SameOn, SameInputs, IsRun, StartAlike, HasApartSignals};
 ghost use Rattle.lv_source.specs.Legal.{IsLegal, Kind, Refusal, HoldsAt, refusals, places_of};

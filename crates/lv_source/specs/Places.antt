@@ -2,8 +2,9 @@
 use Rattle.std.specs.Prelude.{ℕ, zero, suc, ◌+◌, ◌-◌, ◌*◌, ◌/◌, ◌%◌, ◌^◌, min, max, Bool, not, ◌&&◌, if◌then◌else◌, ◌==◌, nat_lt, List, [], ◌∷◌, ◌++◌, map, reverse, bytes_eq, Option, Some, None, ℤ, pos, negsuc, ◌+ℤ◌, ◌-ℤ◌, decimal}
 use Rattle.std.specs.List.{list_any, flat_map, range_with_len}
 use Rattle.lv_ast.specs.declared.expr.Expr.TheOpen.{Select-F}
-use Rattle.lv_ast.specs.Values.{Chosen, own_value, number_of, nowhere}
-use Rattle.lv_ast.specs.Names.{Name, Bounds, Declared, Valuation, Sort, Input, Net, Variable, Constant, low, high, size, width_of, at_index}
+use Rattle.lv_source.specs.Values.{Chosen, own_value, number_of, nowhere}
+use Rattle.lv_ast.specs.Names.{Name, at_index}
+use Rattle.lv_source.specs.Names.{Bounds, Declared, Valuation, Sort, Input, Net, Variable, Constant, low, high, size, width_of}
 
 -- one bit of a value
 pub record Bit : Type 0 where

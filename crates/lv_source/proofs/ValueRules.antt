@@ -5,10 +5,10 @@ use Rattle.lv_bits.specs.Values.{extended, is_apart, keeps_width, unary_value, b
 use Rattle.lv_ast.specs.declared.expr.Literal.{Literal}
 use Rattle.lv_ast.specs.declared.expr.Expr.{Expr}
 use Rattle.lv_ast.specs.declared.expr.Expr.TheVariants as e
-use Rattle.lv_ast.specs.Names.{Names, Valuation}
-use Rattle.lv_ast.specs.Values.{Meaning, own_value, size_of, unary, binary, shift, arithmetic, logical, compared, quotient, remainder, joined, repeated, widths, nowhere}
-use Rattle.lv_ast.specs.Meaning.{Reading, meaning, meanings, read_expr}
-use Rattle.lv_ast.proofs.Readings.{read-Lit, read-Un, read-Bin, read-Div, read-Rem, read-Cond, read-Cat, read-Rep, read-Cast}
+use Rattle.lv_source.specs.Names.{Names, Valuation}
+use Rattle.lv_source.specs.Values.{Meaning, own_value, size_of, unary, binary, shift, arithmetic, logical, compared, quotient, remainder, joined, repeated, widths, nowhere}
+use Rattle.lv_source.specs.Meaning.{Reading, meaning, meanings, read_expr}
+use Rattle.lv_source.proofs.ReadingRules.{read-Lit, read-Un, read-Bin, read-Div, read-Rem, read-Cond, read-Cat, read-Rep, read-Cast}
 
 abbrev at : ℕ → Bool → Valuation → Reading → ℕ
 at W T v r = r.meaning.value W T v

@@ -5,10 +5,10 @@ use Rattle.std.specs.List.{list_all, flat_map}
 use Rattle.lv_ast.specs.declared.expr.Expr.{Expr}
 use Rattle.lv_ast.specs.declared.expr.Select.{Select}
 use Rattle.lv_ast.specs.declared.expr.Expr.TheOpen.{Expr-F, Select-F}
-use Rattle.lv_ast.specs.Values.{Meaning, Chosen, literal, plain, unary, binary, chosen, concatenated, replicated, cast, divided, quotient, remainder, own_value, nowhere}
+use Rattle.lv_source.specs.Values.{Meaning, Chosen, literal, plain, unary, binary, chosen, concatenated, replicated, cast, divided, quotient, remainder, own_value, nowhere}
 use Rattle.lv_ast.specs.Trees.{fold_expr, fold_select}
-use Rattle.lv_ast.specs.Names.{Names, Declared, Valuation, known, is_constant_sort, is_signal_sort}
-use Rattle.lv_ast.specs.Places.{Bit, place_of, held, read, bit_selects, bits_of, place_bits, whole}
+use Rattle.lv_source.specs.Names.{Names, Declared, Valuation, known, is_constant_sort, is_signal_sort}
+use Rattle.lv_source.specs.Places.{Bit, place_of, held, read, bit_selects, bits_of, place_bits, whole}
 
 pub record Reading : Type 0 where
   pub meaning : Meaning

@@ -10,11 +10,12 @@ use Rattle.lv_ast.specs.declared.stmt.Target.{Target}
 use Rattle.lv_ast.specs.declared.stmt.Target.TheOpen.{Target-F}
 use Rattle.lv_ast.specs.declared.stmt.Stmt.{Stmt}
 use Rattle.lv_ast.specs.declared.stmt.Stmt.TheOpen.{Stmt-F, Arm-F}
-use Rattle.lv_ast.specs.Values.{Meaning, own_value, size_of, nowhere}
+use Rattle.lv_source.specs.Values.{Meaning, own_value, size_of, nowhere}
 use Rattle.lv_ast.specs.Trees.{fold_target, fold_stmt}
-use Rattle.lv_ast.specs.Names.{Name, Names, Declared, Valuation, Constant, with_name, known, is_signal_sort}
-use Rattle.lv_ast.specs.Places.{Place, place_of, nowhere_place, write}
-use Rattle.lv_ast.specs.Meaning.{Reading, Choice, meant, read_expr, read_select, meaning, constant_value}
+use Rattle.lv_ast.specs.Names.{Name}
+use Rattle.lv_source.specs.Names.{Names, Declared, Valuation, Constant, with_name, known, is_signal_sort}
+use Rattle.lv_source.specs.Places.{Place, place_of, nowhere_place, write}
+use Rattle.lv_source.specs.Meaning.{Reading, Choice, meant, read_expr, read_select, meaning, constant_value}
 
 -- a name in a target, with its selects
 pub record Piece : Type 0 where

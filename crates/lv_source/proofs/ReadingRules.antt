@@ -8,9 +8,9 @@ use Rattle.lv_ast.specs.declared.expr.Expr.TheVariants as e
 use Rattle.lv_ast.specs.declared.expr.Expr.TheOpen.{Select-F}
 use Rattle.lv_ast.specs.declared.expr.Select.{Select}
 use Rattle.lv_ast.specs.declared.expr.Select.TheVariants as s
-use Rattle.lv_ast.specs.Names.{Names, known}
-use Rattle.lv_ast.specs.Values.{literal, unary, binary, chosen, concatenated, replicated, cast, divided, quotient, remainder}
-use Rattle.lv_ast.specs.Meaning.{Reading, Choice, reading, meanings, named, read_step, choice, read_expr, read_select}
+use Rattle.lv_source.specs.Names.{Names, known}
+use Rattle.lv_source.specs.Values.{literal, unary, binary, chosen, concatenated, replicated, cast, divided, quotient, remainder}
+use Rattle.lv_source.specs.Meaning.{Reading, Choice, reading, meanings, named, read_step, choice, read_expr, read_select}
 use Rattle.lv_ast.proofs.ExprFolds as fold
 
 module _ (names : Names) where

@@ -4,7 +4,7 @@ use Rattle.lv_bits.specs.declared.op.Op.{Op}
 use Rattle.lv_bits.specs.Values.{extended, unary_value, binary_value, is_apart, keeps_width, signed_of}
 use Rattle.lv_ast.specs.declared.expr.Literal.{Literal}
 use Rattle.lv_ast.specs.declared.expr.Expr.TheOpen.{Select-F}
-use Rattle.lv_ast.specs.Names.{Valuation}
+use Rattle.lv_source.specs.Names.{Valuation}
 
 pub record Meaning : Type 0 where
   pub width : ℕ

@@ -11,10 +11,11 @@ use Rattle.lv_ast.specs.declared.stmt.Arm.{Arm}
 use Rattle.lv_ast.specs.declared.stmt.Stmt.{Stmt}
 use Rattle.lv_ast.specs.declared.stmt.Stmt.TheVariants as b
 use Rattle.lv_ast.specs.Trees.{fold_stmt}
-use Rattle.lv_ast.specs.Names.{Name, Names}
-use Rattle.lv_ast.specs.Places.{Place}
-use Rattle.lv_ast.specs.Meaning.{read_select, meaning, constant_value}
-use Rattle.lv_ast.specs.Effect.{Piece, piece_step, pieces, Effect, State, ArmOf, is_set, case_effect, each_turn, with_index, index_value, turns, turns_from, in_order, effect_step, arm_step, executes, places, bits_in, write_all, assigned}
+use Rattle.lv_ast.specs.Names.{Name}
+use Rattle.lv_source.specs.Names.{Names}
+use Rattle.lv_source.specs.Places.{Place}
+use Rattle.lv_source.specs.Meaning.{read_select, meaning, constant_value}
+use Rattle.lv_source.specs.Effect.{Piece, piece_step, pieces, Effect, State, ArmOf, is_set, case_effect, each_turn, with_index, index_value, turns, turns_from, in_order, effect_step, arm_step, executes, places, bits_in, write_all, assigned}
 use Rattle.lv_ast.proofs.StmtFolds as fold
 
 -- ---- targets

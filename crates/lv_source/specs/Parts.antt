@@ -57,23 +57,24 @@ abbrev pub is_first : Bool → List Declaration → List Declaration → Bool
 is_first direction before all =
     if list_any is_direction all then direction && not (list_any is_direction before) else is_nil before
 
-abbrev pub stands_here : Scope → ℕ × Declaration → List Declared
+-- with its place
+abbrev pub stands_here : Scope → ℕ × Declaration → List (ℕ × Declared)
 stands_here s kx =
     let name : Name = kx.1.name.name in
     let d : Declared = known (s.names (alone name)) in
-    if is_signal_sort d.sort && is_first (is_direction kx.1) (declared_as name (take kx.0 s.declarations)) (declared_as name s.declarations) then d ∷ [] else []
+    if is_signal_sort d.sort && is_first (is_direction kx.1) (declared_as name (take kx.0 s.declarations)) (declared_as name s.declarations) then (kx.1.name.place, d) ∷ [] else []
 
 -- in the order of their places
-abbrev pub put_by_place : Declared → List Declared → List Declared
+abbrev pub put_by_place : ℕ × Declared → List (ℕ × Declared) → List (ℕ × Declared)
 put_by_place d [] = d ∷ []
-put_by_place d (e ∷ es) = if nat_le d.place e.place then d ∷ e ∷ es else e ∷ put_by_place d es
+put_by_place d (e ∷ es) = if nat_le d.0 e.0 then d ∷ e ∷ es else e ∷ put_by_place d es
 
-abbrev pub by_place : List Declared → List Declared
+abbrev pub by_place : List (ℕ × Declared) → List (ℕ × Declared)
 by_place [] = []
 by_place (d ∷ ds) = put_by_place d (by_place ds)
 
 abbrev pub scope_signals : Scope → List Declared
-scope_signals s = by_place (flat_map (stands_here s) (numbered_from 0 s.declarations))
+scope_signals s = map (λ kx. kx.1) (by_place (flat_map (stands_here s) (numbered_from 0 s.declarations)))
 
 abbrev pub signals_of : Design → List Declared
 signals_of d = flat_map scope_signals (scopes_of d)

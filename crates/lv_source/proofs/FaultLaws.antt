@@ -55,6 +55,7 @@ range_order : (a b c e : List ℕ) → a ++ ((b ++ c) ++ e) ≡ ((a ++ b) ++ c) 
 range_order a b c e = sym (append_assoc a (b ++ c) e) ∙ ap (λ xs. xs ++ e) (sym (append_assoc a b c))
 
 pub faults_are : (d : Design) (kind : Kind) → faults d kind ≡ places_of d kind
+unfolding places_of
 faults_are d UnknownModule = of_scopes d _ _ (r.unknown_modules d.source) (no_sites d (r.unknown_modules d.source))
 faults_are d UnknownName = of_scopes d [] (scope_faults d.source UnknownName) (r.unknown_names d.source) (alike_in d (scope_faults d.source UnknownName) (r.unknown_names d.source) (λ s.
     sym (append_assoc (flat_map (site_faults UnknownName) (r.scope_spots d.source s)) (flat_map r.unknown_in_form (r.scope_standing s)) (r.at_items (r.unknown_in_item d.source) s))))

@@ -26,7 +26,7 @@ use Rattle.lv_source.specs.ScopeRules.{duplicates}
 use Rattle.lv_source.proofs.Trees.{in-from, IsTold, HasCell, tree_apart}
 use Rattle.lv_source.proofs.Facts.{some_same}
 use Rattle.lv_source.proofs.FaultLaws.{append-right, scopes_clean}
-use Rattle.lv_source.specs.Legal.{IsLegal, Duplicate, modules_again}
+use Rattle.lv_source.specs.Legal.{IsLegal, Duplicate, modules_again, places_of}
 use Rattle.lv_source.specs.Effect.{with_index, turns}
 use Rattle.lv_ast.specs.declared.item.Conn.{Conn}
 use Rattle.lv_ast.specs.declared.item.Inst.{Inst}
@@ -372,6 +372,7 @@ from_apart d plain (Some m) f e x y name i j a b =
 -- no two signals of a legal source with plain names have a cell of one name
 pub signals_apart : (d : Design) → IsLegal d → HasPlainNames d.source → (i j : ℕ) (x y : Declared) (name : Name) → slice_get (signals_of d) i ≡ Some x → slice_get (signals_of d) j ≡ Some y →
     HasCell x name → HasCell y name → x ≡ y
+unfolding places_of signals_of scopes_of
 signals_apart d legal plain i j x y name e f a b =
     from_apart d plain (module_named d.source d.top)
     (λ m k. all_in plain_module d.source.modules m plain.plain (found_in (λ m. bytes_eq m.name.name d.top) d.source.modules m k))

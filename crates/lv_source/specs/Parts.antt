@@ -43,7 +43,7 @@ abbrev pub scopes_from : Design → Option Module → List Scope
 scopes_from d None = []
 scopes_from d (Some m) = scopes_within (suc (depth d.source)) d.source (top_scope d m)
 
-abbrev pub scopes_of : Design → List Scope
+unfoldable pub scopes_of : Design → List Scope
 scopes_of d = scopes_from d (module_named d.source d.top)
 
 -- ---- signals
@@ -76,7 +76,7 @@ by_place (d ∷ ds) = put_by_place d (by_place ds)
 abbrev pub scope_signals : Scope → List Declared
 scope_signals s = map (λ kx. kx.1) (by_place (flat_map (stands_here s) (numbered_from 0 s.declarations)))
 
-abbrev pub signals_of : Design → List Declared
+unfoldable pub signals_of : Design → List Declared
 signals_of d = flat_map scope_signals (scopes_of d)
 
 -- ---- parts
@@ -186,7 +186,7 @@ item_parts source s _ = []
 abbrev pub scope_parts : Source → Scope → List Part
 scope_parts source s = flat_map (item_parts source s) s.items
 
-abbrev pub parts : Design → List Part
+unfoldable pub parts : Design → List Part
 parts d = flat_map (scope_parts d.source) (scopes_of d)
 
 -- ---- what a part drives and reads

@@ -22,10 +22,10 @@ use Rattle.lv_source.proofs.Summaries.{latch_is, read_first_is}
 
 -- ---- lists
 
-two : {A B C : Type 0} (f : A → B → C) (x y : A) (u v : B) → x ≡ y → u ≡ v → f x u ≡ f y v
+pub two : {A B C : Type 0} (f : A → B → C) (x y : A) (u v : B) → x ≡ y → u ≡ v → f x u ≡ f y v
 two f x y u v h k = ap (λ z. f z u) h ∙ ap (λ z. f y z) k
 
-map-map : {A B C : Type 0} (g : B → C) (f : A → B) (xs : List A) → map g (map f xs) ≡ map (λ x. g (f x)) xs
+pub map-map : {A B C : Type 0} (g : B → C) (f : A → B) (xs : List A) → map g (map f xs) ≡ map (λ x. g (f x)) xs
 map-map g f [] = refl
 map-map g f (x ∷ xs) = ap (λ zs. g (f x) ∷ zs) (map-map g f xs)
 
@@ -33,7 +33,7 @@ filter_one : {A B : Type 0} (f : A → B) (x : A) (xs : List A) (k : Bool) → c
 filter_one f x xs true = refl
 filter_one f x xs false = refl
 
-filter-map : {A B : Type 0} (q : B → Bool) (f : A → B) (xs : List A) → filter q (map f xs) ≡ map f (filter (λ x. q (f x)) xs)
+pub filter-map : {A B : Type 0} (q : B → Bool) (f : A → B) (xs : List A) → filter q (map f xs) ≡ map f (filter (λ x. q (f x)) xs)
 filter-map q f [] = refl
 filter-map q f (x ∷ xs) = ap (λ zs. cond (q (f x)) (f x ∷ zs) zs) (filter-map q f xs) ∙ filter_one f x (filter (λ x. q (f x)) xs) (q (f x))
 
@@ -47,7 +47,7 @@ drop-map f zero xs = refl
 drop-map f (suc k) [] = refl
 drop-map f (suc k) (x ∷ xs) = drop-map f k xs
 
-map-join : {A B : Type 0} (f : A → B) (xs ys : List A) → map f (xs ++ ys) ≡ map f xs ++ map f ys
+pub map-join : {A B : Type 0} (f : A → B) (xs ys : List A) → map f (xs ++ ys) ≡ map f xs ++ map f ys
 map-join f [] ys = refl
 map-join f (x ∷ xs) ys = ap (λ zs. f x ∷ zs) (map-join f xs ys)
 
@@ -55,19 +55,19 @@ others-map : {A B : Type 0} (f : A → B) (k : ℕ) (xs : List A) → r.others k
 others-map f k xs = two (λ (a b : List _). a ++ b) _ _ _ _ (take-map f k xs) (drop-map f (suc k) xs) ∙ sym (map-join f (take k xs) (drop (suc k) xs))
 
 -- any of the mapped, by a test that is the same before
-any-over : {A B : Type 0} (p : A → Bool) (q : B → Bool) (f : A → B) (xs : List A) → ((x : A) → p x ≡ q (f x)) → list_any p xs ≡ list_any q (map f xs)
+pub any-over : {A B : Type 0} (p : A → Bool) (q : B → Bool) (f : A → B) (xs : List A) → ((x : A) → p x ≡ q (f x)) → list_any p xs ≡ list_any q (map f xs)
 any-over p q f [] h = refl
 any-over p q f (x ∷ xs) h = two (λ a b. a || b) _ _ _ _ (h x) (any-over p q f xs h)
 
-any-alike : {A : Type 0} (p q : A → Bool) (xs : List A) → ((x : A) → p x ≡ q x) → list_any p xs ≡ list_any q xs
+pub any-alike : {A : Type 0} (p q : A → Bool) (xs : List A) → ((x : A) → p x ≡ q x) → list_any p xs ≡ list_any q xs
 any-alike p q [] h = refl
 any-alike p q (x ∷ xs) h = two (λ a b. a || b) _ _ _ _ (h x) (any-alike p q xs h)
 
-flat-over : {A B C : Type 0} (g : A → List C) (h : B → List C) (f : A → B) (xs : List A) → ((x : A) → g x ≡ h (f x)) → flat_map g xs ≡ flat_map h (map f xs)
+pub flat-over : {A B C : Type 0} (g : A → List C) (h : B → List C) (f : A → B) (xs : List A) → ((x : A) → g x ≡ h (f x)) → flat_map g xs ≡ flat_map h (map f xs)
 flat-over g h f [] e = refl
 flat-over g h f (x ∷ xs) e = two (λ (a b : List _). a ++ b) _ _ _ _ (e x) (flat-over g h f xs e)
 
-filter-over : {A B : Type 0} (p : A → Bool) (q : B → Bool) (f : A → B) (xs : List A) → ((x : A) → p x ≡ q (f x)) → map f (filter p xs) ≡ filter q (map f xs)
+pub filter-over : {A B : Type 0} (p : A → Bool) (q : B → Bool) (f : A → B) (xs : List A) → ((x : A) → p x ≡ q (f x)) → map f (filter p xs) ≡ filter q (map f xs)
 filter-over p q f xs h = ap (λ (t : _ → Bool). map f (filter t xs)) (fun_ext h) ∙ sym (filter-map q f xs)
 
 -- ---- parts and views

@@ -21,6 +21,7 @@ pub mod Hierarchy
 pub mod Induction
 pub mod Kids
 pub mod LegalA
+pub mod Listed
 pub mod Mends
 pub mod Numbers
 pub mod Paths

@@ -1,5 +1,5 @@
 -- The signals and the parts of a source.
-use Rattle.std.specs.Prelude.{ℕ, suc, Bool, true, false, not, ◌&&◌, if◌then◌else◌, nat_le, List, [], ◌∷◌, ◌++◌, map, take, bytes_eq, Option, Some, None, flat_map, filter, sum}
+use Rattle.std.specs.Prelude.{ℕ, suc, Bool, true, false, not, ◌&&◌, ◌||◌, if◌then◌else◌, nat_le, List, [], ◌∷◌, ◌++◌, map, take, bytes_eq, Option, Some, None, flat_map, filter, sum}
 use Rattle.std.specs.List.{list_any}
 use Rattle.lv_ast.specs.declared.expr.Expr.{Expr}
 use Rattle.lv_ast.specs.declared.expr.Expr.TheOpen.{Expr-F, Select-F}
@@ -16,7 +16,7 @@ use Rattle.lv_ast.specs.declared.item.Module.{Module}
 use Rattle.lv_ast.specs.declared.item.Source.{Source}
 use Rattle.lv_ast.specs.Trees.{fold_expr, count_items}
 use Rattle.lv_ast.specs.Names.{Name, alone}
-use Rattle.lv_source.specs.Names.{Names, Declared, Valuation, known, width_of, is_signal_sort, is_variable_sort, is_input_sort, is_clock_sort}
+use Rattle.lv_source.specs.Names.{Names, Sort, Declared, Valuation, known, width_of, is_signal_sort, is_variable_sort, is_input_sort, is_clock_sort}
 use Rattle.lv_source.specs.Places.{Bit, Place, has_bit, cells, whole}
 use Rattle.lv_source.specs.Meaning.{Reading, Choice, is_nil, read_expr, read_step, index_reads}
 use Rattle.lv_source.specs.Effect.{Piece, pieces, places, bits_in, write_all, assigned, left_by}
@@ -57,12 +57,15 @@ abbrev pub is_first : Bool → List Declaration → List Declaration → Bool
 is_first direction before all =
     if list_any is_direction all then direction && not (list_any is_direction before) else is_nil before
 
--- with its place
-abbrev pub stands_here : Scope → ℕ × Declaration → List (ℕ × Declared)
-stands_here s kx =
+-- with its place, if it is of these sorts
+abbrev pub declares_here : (Sort → Bool) → Scope → ℕ × Declaration → List (ℕ × Declared)
+declares_here is s kx =
     let name : Name = kx.1.name.name in
     let d : Declared = known (s.names (alone name)) in
-    if is_signal_sort d.sort && is_first (is_direction kx.1) (declared_as name (take kx.0 s.declarations)) (declared_as name s.declarations) then (kx.1.name.place, d) ∷ [] else []
+    if is d.sort && is_first (is_direction kx.1) (declared_as name (take kx.0 s.declarations)) (declared_as name s.declarations) then (kx.1.name.place, d) ∷ [] else []
+
+abbrev pub stands_here : Scope → ℕ × Declaration → List (ℕ × Declared)
+stands_here s kx = declares_here is_signal_sort s kx
 
 -- in the order of their places
 abbrev pub put_by_place : ℕ × Declared → List (ℕ × Declared) → List (ℕ × Declared)
@@ -78,6 +81,21 @@ scope_signals s = map (λ kx. kx.1) (by_place (flat_map (stands_here s) (numbere
 
 unfoldable pub signals_of : Design → List Declared
 signals_of d = flat_map scope_signals (scopes_of d)
+
+-- ---- signals and clock names
+
+abbrev pub is_declared_sort : Sort → Bool
+is_declared_sort sort = is_signal_sort sort || is_clock_sort sort
+
+abbrev pub scope_declared : Scope → List Declared
+scope_declared s = map (λ kx. kx.1) (by_place (flat_map (declares_here is_declared_sort s) (numbered_from 0 s.declarations)))
+
+-- the signals, and each clock name of a scope among them
+unfoldable pub declared_of : Design → List Declared
+declared_of d = flat_map scope_declared (scopes_of d)
+
+abbrev pub is_signal : Declared → Bool
+is_signal x = is_signal_sort x.sort
 
 -- ---- parts
 

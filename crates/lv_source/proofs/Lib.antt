@@ -23,6 +23,7 @@ pub mod Kids
 pub mod LegalA
 pub mod Listed
 pub mod Mends
+pub mod Nesting
 pub mod Numbers
 pub mod Paths
 pub mod Pieces

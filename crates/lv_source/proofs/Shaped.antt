@@ -306,7 +306,7 @@ found_if : (b : Bool) (x : Module) (xs : List Module) (m : Module) (r : Option M
 found_if true x xs m r h f = inl (some_same x m h)
 found_if false x xs m r h f = inr (f h)
 
-found_in : (q : Module → Bool) (ms : List Module) (m : Module) → find q ms ≡ Some m → In m ms
+pub found_in : (q : Module → Bool) (ms : List Module) (m : Module) → find q ms ≡ Some m → In m ms
 found_in q [] m h = cc
 found_in q (x ∷ xs) m h = found_if (q x) x xs m (find q xs) h (found_in q xs m)
 

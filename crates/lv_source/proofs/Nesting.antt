@@ -10,8 +10,9 @@ use Rattle.lv_ast.specs.declared.item.Inst.{Inst}
 use Rattle.lv_ast.specs.declared.item.Module.{Module}
 use Rattle.lv_ast.specs.declared.item.Source.{Source}
 use Rattle.lv_ast.specs.Trees.{spread, spread_all, count_items, count_all}
-use Rattle.lv_ast.specs.Names.{Name, Names}
-use Rattle.lv_ast.specs.Effect.{turns}
+use Rattle.lv_ast.specs.Names.{Name}
+use Rattle.lv_source.specs.Names.{Names}
+use Rattle.lv_source.specs.Effect.{turns}
 use Rattle.lv_source.specs.Declarations.{of_item, module_items}
 use Rattle.lv_source.specs.Scopes.{Scope, module_named, instance_scope, instance_scopes, turn_scope, is_among, children, children_by, counted_from, names_at, scopes_within}
 use Rattle.lv_source.specs.Parts.{Design, depth, top_scope, scopes_from, scopes_of}

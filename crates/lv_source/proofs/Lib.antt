@@ -8,6 +8,7 @@ pub mod Chains
 pub mod DesignA
 pub mod DesignM
 pub mod Determined
+pub mod Driven
 pub mod Each
 pub mod Effects
 pub mod Exists

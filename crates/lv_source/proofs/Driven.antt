@@ -116,13 +116,13 @@ module _ (ss : List Declared) where
 
   -- ---- blocks
 
-  index_by : (b : Bool) (x : Declared) (o : Option Declared) → is_signal_sort x.sort ≡ false → (is_signal_sort (known o).sort ≡ true → In (known o) ss) →
+  pub index_by : (b : Bool) (x : Declared) (o : Option Declared) → is_signal_sort x.sort ≡ false → (is_signal_sort (known o).sort ≡ true → In (known o) ss) →
       is_signal_sort (known (if b then Some x else o)).sort ≡ true → In (known (if b then Some x else o)) ss
   index_by true x o n f h = cc
   index_by false x o n f h = f h
 
-  pub index_known : (names : Names) (index : Name) (place value : ℕ) → Knows names → Knows (with_index names index place value)
-  index_known names index place value f p h = index_by (has_no_steps p && bytes_eq p.name index) _ (names p) refl (f p) h
+  pub index_known : (names : Names) (index : Name) (value : ℕ) → Knows names → Knows (with_index names index value)
+  index_known names index value f p h = index_by (has_no_steps p && bytes_eq p.name index) _ (names p) refl (f p) h
 
   abbrev KnownEvents : List Event → Type 0
   KnownEvents es = Each (λ (e : Event). Each KnownPiece e.targets) es
@@ -176,7 +176,7 @@ module _ (ss : List Declared) where
     known_by (b.If' c n s other) = if_known c _ _ (one_known s) (held_known other)
     known_by (b.Case' wild x n arms) = case_known wild x _ (arm_rows_known arms)
     known_by (b.Loop' index start test again next n s) =
-        λ names k. loop_known (fold_one_stmt Flows (ArmOf Flows) flow_step arm_step s) (one_known s) (with_index names index.name index.place) (λ v. index_known names index.name index.place v k) (turns names index.name index.place start test next)
+        λ names k. loop_known (fold_one_stmt Flows (ArmOf Flows) flow_step arm_step s) (one_known s) (with_index names index.name) (λ v. index_known names index.name v k) (turns names index.name start test next)
     known_by (b.Now target x place) = λ names k. (pieces_known names k target, tt)
     known_by (b.Later target x place) = λ names k. (pieces_known names k target, tt)
 

@@ -18,6 +18,7 @@ pub mod FaultLaws
 pub mod Fits
 pub mod Follows
 pub mod Frame
+pub mod Given
 pub mod Hierarchy
 pub mod Induction
 pub mod Kids

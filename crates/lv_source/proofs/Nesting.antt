@@ -11,10 +11,9 @@ use Rattle.lv_ast.specs.declared.item.Module.{Module}
 use Rattle.lv_ast.specs.declared.item.Source.{Source}
 use Rattle.lv_ast.specs.Trees.{spread, spread_all, count_items, count_all}
 use Rattle.lv_ast.specs.Names.{Name}
-use Rattle.lv_source.specs.Names.{Names}
 use Rattle.lv_source.specs.Effect.{turns}
 use Rattle.lv_source.specs.Declarations.{of_item, module_items}
-use Rattle.lv_source.specs.Scopes.{Scope, module_named, instance_scope, instance_scopes, turn_scope, is_among, children, children_by, counted_from, names_at, scopes_within}
+use Rattle.lv_source.specs.Scopes.{Scope, module_named, instance_scope, instance_scopes, turn_scope, is_among, children, children_by, counted_from, scopes_within}
 use Rattle.lv_source.specs.Parts.{Design, depth, top_scope, scopes_from, scopes_of}
 use Rattle.lv_source.proofs.Tests.{name-itself}
 use Rattle.lv_source.proofs.Refused.{In, in-split, in_contains, contains_in}
@@ -146,10 +145,10 @@ module _ (source : Source) (s : Scope) where
       let b : counted (module_items m) ≤ counted m.items = module_fewer m.items in
       omega arith)
 
-  loop_lower : (names : Names) (index label : Ident) {n : _} (items : Row_of-Item n) (ks : List ℕ) → suc (count_all items) ≤ counted s.items → (c : Scope) →
-      In c (map (turn_scope s names index label (spread_all items)) ks) → height source c < height source s
-  loop_lower names index label items ks a c h =
-      let r : (v : ℕ) × In v ks × (turn_scope s names index label (spread_all items) v ≡ c) = mapped-from (turn_scope s names index label (spread_all items)) c ks h in
+  loop_lower : (before : ℕ) (index label : Ident) {n : _} (items : Row_of-Item n) (ks : List ℕ) → suc (count_all items) ≤ counted s.items → (c : Scope) →
+      In c (map (turn_scope s before index label (spread_all items)) ks) → height source c < height source s
+  loop_lower before index label items ks a c h =
+      let r : (v : ℕ) × In v ks × (turn_scope s before index label (spread_all items) v ≡ c) = mapped-from (turn_scope s before index label (spread_all items)) c ks h in
       subst (λ (z : Scope). height source z < height source s) r.2 (let b : counted (spread_all items) ≤ count_all items = all_fewer items in omega arith)
 
   item_lower : (k : ℕ) (x : Item) → count_items x ≤ counted s.items → (c : Scope) → In c (children_by source s (k, x)) → height source c < height source s
@@ -157,7 +156,7 @@ module _ (source : Source) (s : Scope) where
       (let r : (n : Inst) × In n insts × In c (instance_scopes s settings n (module_named source kind.name)) = in-from (λ n. instance_scopes s settings n (module_named source kind.name)) c insts h in
       inst_lower settings r.0 (module_named source kind.name) (λ m e. found_in (λ m. bytes_eq m.name.name kind.name) source.modules m e) c r.2)
   item_lower k (i.Loop' index start test again next label n items) a c h =
-      loop_lower (names_at s k) index label items (turns s.names index.name index.place start test next) a c h
+      loop_lower k index label items (turns s.names index.name start test next) a c h
   item_lower k (i.Port x) a c h = absurd h
   item_lower k (i.Wire signed range names) a c h = absurd h
   item_lower k (i.Reg signed range names) a c h = absurd h

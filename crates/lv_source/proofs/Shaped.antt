@@ -118,7 +118,7 @@ in_cond true x d xs (inl e) = inl (refl, e)
 in_cond true x d xs (inr h) = inr h
 in_cond false x d xs h = inr h
 
-filter_in : (n : Name) (ds : List Declaration) (d : Declaration) → In d (declared_as n ds) → In d ds × (d.name.name ≡ n)
+pub filter_in : (n : Name) (ds : List Declaration) (d : Declaration) → In d (declared_as n ds) → In d ds × (d.name.name ≡ n)
 filter_in n [] d h = absurd h
 filter_in n (x ∷ xs) d h = elim (in_cond (bytes_eq x.name.name n) x d (declared_as n xs) h) [
   | inl e ↦ (inl e.1, ap (λ (z : Declaration). z.name.name) (sym e.1) ∙ same_name x.name.name n e.0)
@@ -157,7 +157,7 @@ told source s h e =
 
 -- ---- parameters
 
-over_fixed : (here : Names) (n : Ident) (signed : Bool) (range : Option Range) (value : Expr) (o : Option Override) → is_signal_sort (overridden here n signed range value o).sort ≡ false
+pub over_fixed : (here : Names) (n : Ident) (signed : Bool) (range : Option Range) (value : Expr) (o : Option Override) → is_signal_sort (overridden here n signed range value o).sort ≡ false
 over_fixed here n signed None value None = refl
 over_fixed here n signed (Some r) value None = refl
 over_fixed here n signed None value (Some o) = refl

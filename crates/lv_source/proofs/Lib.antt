@@ -9,6 +9,7 @@ pub mod DesignA
 pub mod DesignM
 pub mod Determined
 pub mod Driven
+pub mod Drives
 pub mod Each
 pub mod Effects
 pub mod Exists

@@ -11,7 +11,6 @@ pub mod Observe
 pub mod PartRules
 pub mod Parts
 pub mod Places
-pub mod PlainNames
 pub mod ScopeRules
 pub mod Scopes
 pub mod Settled

@@ -41,7 +41,11 @@ pub struct Params {
 
 impl Drop for Params {
     fn drop(self) {
-        let Params { signed: _, range, list } = self;
+        let Params {
+            signed: _,
+            range,
+            list,
+        } = self;
         drop(range);
         drop(list);
     }
@@ -66,7 +70,13 @@ pub struct Aport {
 
 impl Drop for Aport {
     fn drop(self) {
-        let Aport { output: _, word: _, signed: _, range, names } = self;
+        let Aport {
+            output: _,
+            word: _,
+            signed: _,
+            range,
+            names,
+        } = self;
         drop(range);
         drop(names);
     }
@@ -118,7 +128,11 @@ pub struct Continuous {
 
 impl Drop for Continuous {
     fn drop(self) {
-        let Continuous { target, value, place: _ } = self;
+        let Continuous {
+            target,
+            value,
+            place: _,
+        } = self;
         drop(target);
         drop(value);
     }
@@ -141,7 +155,11 @@ pub struct Conn {
 
 impl Drop for Conn {
     fn drop(self) {
-        let Conn { name, value, place: _ } = self;
+        let Conn {
+            name,
+            value,
+            place: _,
+        } = self;
         drop(name);
         drop(value);
     }
@@ -193,7 +211,12 @@ pub struct Module {
 
 impl Drop for Module {
     fn drop(self) {
-        let Module { name, params, ports, items } = self;
+        let Module {
+            name,
+            params,
+            ports,
+            items,
+        } = self;
         drop(name);
         drop(params);
         drop(ports);

@@ -1,0 +1,4 @@
+pub mod Names
+pub mod Gives
+pub mod Trees
+pub mod Productions

@@ -39,6 +39,7 @@ pub mod Refusals
 pub mod Refused
 pub mod Runs
 pub mod SafeA
+pub mod Selects
 pub mod Settles
 pub mod SettlesA
 pub mod Shaped

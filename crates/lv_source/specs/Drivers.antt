@@ -1,5 +1,5 @@
 -- The table of drivers: for each bit the numbers of the parts that drive it, and the rules that can be told by it.
-use Rattle.std.specs.Prelude.{◌≡◌, ℕ, suc, Bool, true, false, not, ◌&&◌, ◌||◌, ◌==◌, if◌then◌else◌, List, [], ◌∷◌, Option, Some, None, filter, find, slice_get}
+use Rattle.std.specs.Prelude.{◌≡◌, ℕ, suc, Bool, true, false, not, ◌&&◌, ◌||◌, ◌==◌, List, [], ◌∷◌, Option, Some, None, filter, find, slice_get}
 use Rattle.std.specs.List.{list_any}
 use Rattle.lv_source.specs.Names.{Declared, Valuation, is_variable_sort, is_input_sort}
 use Rattle.lv_source.specs.Places.{Bit, has_bit, whole}

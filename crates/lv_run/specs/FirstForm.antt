@@ -77,7 +77,7 @@ abbrev pub is_in : List Name → Name → Bool
 is_in names x = list_any (bytes_eq x) names
 
 abbrev pub one_bit : Sort → Name → Declared
-one_bit sort name = record { path = name; bounds = record { left = 0; right = 0 }; ranged = false; signed = false; array = None; sort = sort; place = 0; early = false }
+one_bit sort name = record { path = name; bounds = record { left = 0; right = 0 }; ranged = false; signed = false; array = None; sort = sort }
 
 -- what each name stands for
 abbrev pub scope_of : List Name → List Name → Names

@@ -4,7 +4,7 @@ use Rattle.lv_source.specs.Meaning.{read_expr, read_select}
 use Rattle.lv_source.specs.Effect.{pieces, executes, turns, turns_from}
 use Rattle.lv_source.specs.Flow.{flow}
 use Rattle.lv_source.specs.Declarations.{labels}
-use Rattle.lv_source.specs.Parts.{as_target}
+use Rattle.lv_source.specs.Parts.{as_target, parts, scopes_of, signals_of}
 use Rattle.lv_source.specs.Sites.{walk, walk_select, target_sites}
 use Rattle.lv_source.specs.Standing.{standing}
 use Rattle.std.specs.Prelude.{◌≡◌, ℕ, true, false, List, [], ◌∷◌, map, Some, None, codes, refl}
@@ -18,7 +18,7 @@ use Rattle.lv_ast.specs.declared.item.Ports.TheVariants as p
 use Rattle.lv_source.specs.Names.{Valuation}
 use Rattle.lv_source.specs.Parts.{Design, parts, registers_of, inputs_of, after}
 use Rattle.lv_source.specs.Settled.{next_bit, idle_bits}
-use Rattle.lv_source.specs.Legal.{Latch, Port}
+use Rattle.lv_source.specs.Legal.{Latch, Port, places_of}
 use Rattle.lv_ast.proofs.Build.{id, name, bin, to, to_bits, bit, chosen, plain, sized, wild, bits, block, case_of, input, output, output_reg, assign, module_of, clk, always_star, at_clock, reg, wire, valued, loop_of, cat, down}
 use Rattle.lv_source.proofs.Build.{design_t, refused, told_at}
 
@@ -32,24 +32,24 @@ cases arms = design_t (module_of (codes "t") (clk ∷ input (codes "a") 26 (Some
     (always_star (case_of false (name (codes "a")) arms) 52 ∷ []) ∷ [])
 
 three_latch : refused (cases (arm 0 0 ∷ arm 1 1 ∷ arm 2 1 ∷ [])) ≡ (Latch, 52) ∷ []
-unfolding read_expr read_select pieces executes turns turns_from flow labels as_target walk walk_select target_sites standing digits
+unfolding read_expr read_select pieces executes turns turns_from flow labels as_target walk walk_select target_sites standing digits parts scopes_of signals_of places_of
 three_latch = refl
 
 four_are_legal : refused (cases (arm 0 0 ∷ arm 1 1 ∷ arm 2 1 ∷ arm 3 0 ∷ [])) ≡ []
-unfolding read_expr read_select pieces executes turns turns_from flow labels as_target walk walk_select target_sites standing digits
+unfolding read_expr read_select pieces executes turns turns_from flow labels as_target walk walk_select target_sites standing digits parts scopes_of signals_of places_of
 four_are_legal = refl
 
 default_is_legal : refused (cases (arm 0 0 ∷ ([], b.Now (to (codes "y")) (sized 1 1) 80) ∷ [])) ≡ []
-unfolding read_expr read_select pieces executes turns turns_from flow labels as_target walk walk_select target_sites standing digits
+unfolding read_expr read_select pieces executes turns turns_from flow labels as_target walk walk_select target_sites standing digits parts scopes_of signals_of places_of
 default_is_legal = refl
 
 no_registers : registers_of (cases (arm 0 0 ∷ [])) ≡ []
-unfolding read_expr read_select pieces executes turns turns_from flow labels as_target walk walk_select target_sites standing digits
+unfolding read_expr read_select pieces executes turns turns_from flow labels as_target walk walk_select target_sites standing digits parts scopes_of signals_of places_of
 no_registers = refl
 
 -- the block gives y its value
 taken : map (λ p. after p (valued ((codes "a", 2) ∷ [])) (codes "y")) (parts (cases (arm 0 0 ∷ arm 1 1 ∷ arm 2 1 ∷ arm 3 0 ∷ []))) ≡ 1 ∷ []
-unfolding read_expr read_select pieces executes turns turns_from flow labels as_target walk walk_select target_sites standing digits
+unfolding read_expr read_select pieces executes turns turns_from flow labels as_target walk walk_select target_sites standing digits parts scopes_of signals_of places_of
 taken = refl
 
 -- ---- casez, with a label that fits each value
@@ -62,11 +62,11 @@ free_cases = design_t (module_of (codes "t") (clk ∷ input (codes "a") 26 (Some
     (always_star (case_of true (name (codes "a")) (free_arm 8 7 3 ∷ free_arm 4 3 2 ∷ free_arm 0 15 1 ∷ [])) 52 ∷ []) ∷ [])
 
 free_is_legal : refused free_cases ≡ []
-unfolding read_expr read_select pieces executes turns turns_from flow labels as_target walk walk_select target_sites standing digits
+unfolding read_expr read_select pieces executes turns turns_from flow labels as_target walk walk_select target_sites standing digits parts scopes_of signals_of places_of
 free_is_legal = refl
 
 free_values : map (λ a. map (λ p. after p (valued ((codes "a", a) ∷ [])) (codes "y")) (parts free_cases)) (8 ∷ 5 ∷ 0 ∷ []) ≡ (3 ∷ []) ∷ (2 ∷ []) ∷ (1 ∷ []) ∷ []
-unfolding read_expr read_select pieces executes turns turns_from flow labels as_target walk walk_select target_sites standing digits
+unfolding read_expr read_select pieces executes turns turns_from flow labels as_target walk walk_select target_sites standing digits parts scopes_of signals_of places_of
 free_values = refl
 
 -- ---- a memory of four words
@@ -77,15 +77,15 @@ memory = design_t (module_of (codes "t") (clk ∷ input (codes "a") 26 (Some (bi
     at_clock (b.Later (to_bits (codes "m") (bit (name (codes "a")) ∷ [])) (name (codes "d")) 99) 90 ∷ []) ∷ [])
 
 memory_registers : registers_of memory ≡ codes "m[0]" ∷ codes "m[1]" ∷ codes "m[2]" ∷ codes "m[3]" ∷ []
-unfolding read_expr read_select pieces executes turns turns_from flow labels as_target walk walk_select target_sites standing digits
+unfolding read_expr read_select pieces executes turns turns_from flow labels as_target walk walk_select target_sites standing digits parts scopes_of signals_of places_of
 memory_registers = refl
 
 memory_inputs : inputs_of memory ≡ codes "a" ∷ codes "d" ∷ []
-unfolding read_expr read_select pieces executes turns turns_from flow labels as_target walk walk_select target_sites standing digits
+unfolding read_expr read_select pieces executes turns turns_from flow labels as_target walk walk_select target_sites standing digits parts scopes_of signals_of places_of
 memory_inputs = refl
 
 memory_is_legal : refused memory ≡ []
-unfolding read_expr read_select pieces executes turns turns_from flow labels as_target walk walk_select target_sites standing digits
+unfolding read_expr read_select pieces executes turns turns_from flow labels as_target walk walk_select target_sites standing digits parts scopes_of signals_of places_of
 memory_is_legal = refl
 
 abbrev next_of : Design → Valuation → List ℕ → List ℕ → List ℕ
@@ -93,16 +93,16 @@ next_of d v name places = map (λ k. next_bit d v (record { name = name; place =
 
 -- m[1] becomes 7
 memory_next : next_of memory (valued ((codes "a", 1) ∷ (codes "d", 7) ∷ [])) (codes "m[1]") (0 ∷ 1 ∷ 2 ∷ 3 ∷ []) ≡ 1 ∷ 1 ∷ 1 ∷ 0 ∷ []
-unfolding read_expr read_select pieces executes turns turns_from flow labels as_target walk walk_select target_sites standing digits
+unfolding read_expr read_select pieces executes turns turns_from flow labels as_target walk walk_select target_sites standing digits parts scopes_of signals_of places_of
 memory_next = refl
 
 -- and keeps what it has where a is 5
 memory_kept : next_of memory (valued ((codes "a", 5) ∷ (codes "d", 7) ∷ (codes "m[1]", 8) ∷ [])) (codes "m[1]") (0 ∷ 1 ∷ 2 ∷ 3 ∷ []) ≡ 0 ∷ 0 ∷ 0 ∷ 1 ∷ []
-unfolding read_expr read_select pieces executes turns turns_from flow labels as_target walk walk_select target_sites standing digits
+unfolding read_expr read_select pieces executes turns turns_from flow labels as_target walk walk_select target_sites standing digits parts scopes_of signals_of places_of
 memory_kept = refl
 
 memory_read : map (λ p. after p (valued ((codes "a", 1) ∷ (codes "m[1]", 9) ∷ [])) (codes "y")) (parts memory) ≡ 9 ∷ 0 ∷ []
-unfolding read_expr read_select pieces executes turns turns_from flow labels as_target walk walk_select target_sites standing digits
+unfolding read_expr read_select pieces executes turns turns_from flow labels as_target walk walk_select target_sites standing digits parts scopes_of signals_of places_of
 memory_read = refl
 
 -- ---- a clocked block with a variable of its own: u = a + 1; q <= u + u; u = 0
@@ -118,20 +118,20 @@ own_variable more = design_t (module_of (codes "t") (clk ∷ input (codes "a") 2
     b.Now (to (codes "u")) (sized 4 0) 100 ∷ [])) 70 ∷ more) ∷ [])
 
 own_is_legal : refused (own_variable []) ≡ []
-unfolding read_expr read_select pieces executes turns turns_from flow labels as_target walk walk_select target_sites standing digits
+unfolding read_expr read_select pieces executes turns turns_from flow labels as_target walk walk_select target_sites standing digits parts scopes_of signals_of places_of
 own_is_legal = refl
 
 own_next : next_of (own_variable []) (valued ((codes "a", 3) ∷ (codes "u", 5) ∷ [])) (codes "q") (0 ∷ 1 ∷ 2 ∷ 3 ∷ []) ≡ 0 ∷ 0 ∷ 0 ∷ 1 ∷ []
-unfolding read_expr read_select pieces executes turns turns_from flow labels as_target walk walk_select target_sites standing digits
+unfolding read_expr read_select pieces executes turns turns_from flow labels as_target walk walk_select target_sites standing digits parts scopes_of signals_of places_of
 own_next = refl
 
 own_left : next_of (own_variable []) (valued ((codes "a", 3) ∷ (codes "u", 5) ∷ [])) (codes "u") (0 ∷ 1 ∷ 2 ∷ 3 ∷ []) ≡ 0 ∷ 0 ∷ 0 ∷ 0 ∷ []
-unfolding read_expr read_select pieces executes turns turns_from flow labels as_target walk walk_select target_sites standing digits
+unfolding read_expr read_select pieces executes turns turns_from flow labels as_target walk walk_select target_sites standing digits parts scopes_of signals_of places_of
 own_left = refl
 
 -- read by another part
 own_is_read : map (λ r. r.1) (refused (own_variable (assign (to (codes "z")) (chosen (codes "u") (bit (plain 0) ∷ [])) 120 ∷ []))) ≡ 80 ∷ 0 ∷ 100 ∷ 0 ∷ []
-unfolding read_expr read_select pieces executes turns turns_from flow labels as_target walk walk_select target_sites standing digits
+unfolding read_expr read_select pieces executes turns turns_from flow labels as_target walk walk_select target_sites standing digits parts scopes_of signals_of places_of
 own_is_read = refl
 
 -- ---- a loop in a block: y[k] = a[3 - k]
@@ -143,17 +143,17 @@ turned = design_t (module_of (codes "t") (clk ∷ input (codes "a") 26 (Some (bi
     (b.Now (to_bits (codes "y") (bit (name (codes "k")) ∷ [])) (chosen (codes "a") (bit (bin o.Sub (plain 3) (name (codes "k"))) ∷ [])) 80)) 55 ∷ []) ∷ [])
 
 turned_value : map (λ p. after p (valued ((codes "a", 1) ∷ [])) (codes "y")) (parts turned) ≡ 8 ∷ []
-unfolding read_expr read_select pieces executes turns turns_from flow labels as_target walk walk_select target_sites standing digits
+unfolding read_expr read_select pieces executes turns turns_from flow labels as_target walk walk_select target_sites standing digits parts scopes_of signals_of places_of
 turned_value = refl
 
 turned_is_legal : refused turned ≡ []
-unfolding read_expr read_select pieces executes turns turns_from flow labels as_target walk walk_select target_sites standing digits
+unfolding read_expr read_select pieces executes turns turns_from flow labels as_target walk walk_select target_sites standing digits parts scopes_of signals_of places_of
 turned_is_legal = refl
 
 -- ---- idle bits
 
 idle : idle_bits (design_t (module_of (codes "t") (clk ∷ []) (wire (codes "w") 30 (Some (bits 1 0)) ∷ []) ∷ [])) ≡ record { name = codes "w"; place = 0 } ∷ record { name = codes "w"; place = 1 } ∷ []
-unfolding read_expr read_select pieces executes turns turns_from flow labels as_target walk walk_select target_sites standing digits
+unfolding read_expr read_select pieces executes turns turns_from flow labels as_target walk walk_select target_sites standing digits parts scopes_of signals_of places_of
 idle = refl
 
 -- ---- two registers that exchange their values
@@ -163,11 +163,11 @@ pair = design_t (module_of (codes "t") (clk ∷ output_reg (codes "a") 26 None �
     (at_clock (block (b.Later (to (codes "a")) (name (codes "b")) 50 ∷ b.Later (to (codes "b")) (name (codes "a")) 60 ∷ [])) 40 ∷ []) ∷ [])
 
 pair_is_legal : refused pair ≡ []
-unfolding read_expr read_select pieces executes turns turns_from flow labels as_target walk walk_select target_sites standing digits
+unfolding read_expr read_select pieces executes turns turns_from flow labels as_target walk walk_select target_sites standing digits parts scopes_of signals_of places_of
 pair_is_legal = refl
 
 pair_next : map (λ n. next_of pair (valued ((codes "a", 1) ∷ [])) n (0 ∷ [])) (codes "a" ∷ codes "b" ∷ []) ≡ (0 ∷ []) ∷ (1 ∷ []) ∷ []
-unfolding read_expr read_select pieces executes turns turns_from flow labels as_target walk walk_select target_sites standing digits
+unfolding read_expr read_select pieces executes turns turns_from flow labels as_target walk walk_select target_sites standing digits parts scopes_of signals_of places_of
 pair_next = refl
 
 -- ---- selects out of range read 0, and a write there has no effect: y = {x[5], x[1 -: 2], x[0]} of wire [1:0] x, and r[4] = 1
@@ -178,15 +178,15 @@ beyond = design_t (module_of (codes "t") (clk ∷ input (codes "x") 26 (Some (bi
     always_star (block (b.Now (to (codes "r")) (sized 4 2) 60 ∷ b.Now (to_bits (codes "r") (bit (plain 4) ∷ [])) (sized 1 1) 70 ∷ [])) 50 ∷ []) ∷ [])
 
 beyond_is_legal : refused beyond ≡ []
-unfolding read_expr read_select pieces executes turns turns_from flow labels as_target walk walk_select target_sites standing digits
+unfolding read_expr read_select pieces executes turns turns_from flow labels as_target walk walk_select target_sites standing digits parts scopes_of signals_of places_of
 beyond_is_legal = refl
 
 beyond_reads : map (λ p. after p (valued ((codes "x", 3) ∷ [])) (codes "y")) (parts beyond) ≡ 7 ∷ 0 ∷ []
-unfolding read_expr read_select pieces executes turns turns_from flow labels as_target walk walk_select target_sites standing digits
+unfolding read_expr read_select pieces executes turns turns_from flow labels as_target walk walk_select target_sites standing digits parts scopes_of signals_of places_of
 beyond_reads = refl
 
 beyond_keeps : map (λ p. after p (valued []) (codes "r")) (parts beyond) ≡ 0 ∷ 2 ∷ []
-unfolding read_expr read_select pieces executes turns turns_from flow labels as_target walk walk_select target_sites standing digits
+unfolding read_expr read_select pieces executes turns turns_from flow labels as_target walk walk_select target_sites standing digits parts scopes_of signals_of places_of
 beyond_keeps = refl
 
 -- ---- ports that the header lists by name: each wants a direction among the items
@@ -198,14 +198,14 @@ abbrev directions : List Item
 directions = i.Port clk ∷ i.Port (input (codes "a") 26 None) ∷ i.Port (output (codes "y") 36 None) ∷ assign (to (codes "y")) (name (codes "a")) 40 ∷ []
 
 listed_is_legal : refused (listed directions) ≡ []
-unfolding read_expr read_select pieces executes turns turns_from flow labels as_target walk walk_select target_sites standing digits
+unfolding read_expr read_select pieces executes turns turns_from flow labels as_target walk walk_select target_sites standing digits parts scopes_of signals_of places_of
 listed_is_legal = refl
 
 listed_inputs : inputs_of (listed directions) ≡ codes "a" ∷ []
-unfolding read_expr read_select pieces executes turns turns_from flow labels as_target walk walk_select target_sites standing digits
+unfolding read_expr read_select pieces executes turns turns_from flow labels as_target walk walk_select target_sites standing digits parts scopes_of signals_of places_of
 listed_inputs = refl
 
 -- without its direction, and with a direction for a name that isn't listed
 unlisted : map (λ xs. told_at (listed xs) Port) ((i.Port clk ∷ i.Port (output (codes "y") 36 None) ∷ []) ∷ (i.Port (input (codes "b") 44 None) ∷ directions) ∷ []) ≡ (14 ∷ []) ∷ (44 ∷ []) ∷ []
-unfolding read_expr read_select pieces executes turns turns_from flow labels as_target walk walk_select target_sites standing digits
+unfolding read_expr read_select pieces executes turns turns_from flow labels as_target walk walk_select target_sites standing digits parts scopes_of signals_of places_of
 unlisted = refl

@@ -22,10 +22,10 @@ use Rattle.lv_source.proofs.Summaries.{latch_is, read_first_is}
 
 -- ---- lists
 
-two : {A B C : Type 0} (f : A → B → C) (x y : A) (u v : B) → x ≡ y → u ≡ v → f x u ≡ f y v
+pub two : {A B C : Type 0} (f : A → B → C) (x y : A) (u v : B) → x ≡ y → u ≡ v → f x u ≡ f y v
 two f x y u v h k = ap (λ z. f z u) h ∙ ap (λ z. f y z) k
 
-map-map : {A B C : Type 0} (g : B → C) (f : A → B) (xs : List A) → map g (map f xs) ≡ map (λ x. g (f x)) xs
+pub map-map : {A B C : Type 0} (g : B → C) (f : A → B) (xs : List A) → map g (map f xs) ≡ map (λ x. g (f x)) xs
 map-map g f [] = refl
 map-map g f (x ∷ xs) = ap (λ zs. g (f x) ∷ zs) (map-map g f xs)
 
@@ -33,7 +33,7 @@ filter_one : {A B : Type 0} (f : A → B) (x : A) (xs : List A) (k : Bool) → c
 filter_one f x xs true = refl
 filter_one f x xs false = refl
 
-filter-map : {A B : Type 0} (q : B → Bool) (f : A → B) (xs : List A) → filter q (map f xs) ≡ map f (filter (λ x. q (f x)) xs)
+pub filter-map : {A B : Type 0} (q : B → Bool) (f : A → B) (xs : List A) → filter q (map f xs) ≡ map f (filter (λ x. q (f x)) xs)
 filter-map q f [] = refl
 filter-map q f (x ∷ xs) = ap (λ zs. cond (q (f x)) (f x ∷ zs) zs) (filter-map q f xs) ∙ filter_one f x (filter (λ x. q (f x)) xs) (q (f x))
 
@@ -47,7 +47,7 @@ drop-map f zero xs = refl
 drop-map f (suc k) [] = refl
 drop-map f (suc k) (x ∷ xs) = drop-map f k xs
 
-map-join : {A B : Type 0} (f : A → B) (xs ys : List A) → map f (xs ++ ys) ≡ map f xs ++ map f ys
+pub map-join : {A B : Type 0} (f : A → B) (xs ys : List A) → map f (xs ++ ys) ≡ map f xs ++ map f ys
 map-join f [] ys = refl
 map-join f (x ∷ xs) ys = ap (λ zs. f x ∷ zs) (map-join f xs ys)
 
@@ -55,19 +55,19 @@ others-map : {A B : Type 0} (f : A → B) (k : ℕ) (xs : List A) → r.others k
 others-map f k xs = two (λ (a b : List _). a ++ b) _ _ _ _ (take-map f k xs) (drop-map f (suc k) xs) ∙ sym (map-join f (take k xs) (drop (suc k) xs))
 
 -- any of the mapped, by a test that is the same before
-any-over : {A B : Type 0} (p : A → Bool) (q : B → Bool) (f : A → B) (xs : List A) → ((x : A) → p x ≡ q (f x)) → list_any p xs ≡ list_any q (map f xs)
+pub any-over : {A B : Type 0} (p : A → Bool) (q : B → Bool) (f : A → B) (xs : List A) → ((x : A) → p x ≡ q (f x)) → list_any p xs ≡ list_any q (map f xs)
 any-over p q f [] h = refl
 any-over p q f (x ∷ xs) h = two (λ a b. a || b) _ _ _ _ (h x) (any-over p q f xs h)
 
-any-alike : {A : Type 0} (p q : A → Bool) (xs : List A) → ((x : A) → p x ≡ q x) → list_any p xs ≡ list_any q xs
+pub any-alike : {A : Type 0} (p q : A → Bool) (xs : List A) → ((x : A) → p x ≡ q x) → list_any p xs ≡ list_any q xs
 any-alike p q [] h = refl
 any-alike p q (x ∷ xs) h = two (λ a b. a || b) _ _ _ _ (h x) (any-alike p q xs h)
 
-flat-over : {A B C : Type 0} (g : A → List C) (h : B → List C) (f : A → B) (xs : List A) → ((x : A) → g x ≡ h (f x)) → flat_map g xs ≡ flat_map h (map f xs)
+pub flat-over : {A B C : Type 0} (g : A → List C) (h : B → List C) (f : A → B) (xs : List A) → ((x : A) → g x ≡ h (f x)) → flat_map g xs ≡ flat_map h (map f xs)
 flat-over g h f [] e = refl
 flat-over g h f (x ∷ xs) e = two (λ (a b : List _). a ++ b) _ _ _ _ (e x) (flat-over g h f xs e)
 
-filter-over : {A B : Type 0} (p : A → Bool) (q : B → Bool) (f : A → B) (xs : List A) → ((x : A) → p x ≡ q (f x)) → map f (filter p xs) ≡ filter q (map f xs)
+pub filter-over : {A B : Type 0} (p : A → Bool) (q : B → Bool) (f : A → B) (xs : List A) → ((x : A) → p x ≡ q (f x)) → map f (filter p xs) ≡ filter q (map f xs)
 filter-over p q f xs h = ap (λ (t : _ → Bool). map f (filter t xs)) (fun_ext h) ∙ sym (filter-map q f xs)
 
 -- ---- parts and views
@@ -127,6 +127,7 @@ wrong d p = two (λ a b. a || b) _ _ _ _
     (any-alike _ _ (signals_of d) (λ x. ap (λ k. r.touches (drives p) x && not (same_sign k (is_variable_sort x.sort)) && not (is_input_sort x.sort)) (block p)))
 
 pub bridge_wrong : (d : Design) → places_of d WrongKind ≡ v.wrong_views (signals_of d) (views_of d)
+unfolding places_of
 bridge_wrong d = each (λ k p. r.wrong_kinds d p) (λ k w. r.told_if (v.is_wrong_view (signals_of d) w) (v.aimed_at w)) (parts d) 0 (λ k p. told _ _ _ _ (wrong d p) (aims p))
 
 -- ---- Nonblocking and Blocking
@@ -149,6 +150,7 @@ events_same p f g h =
     ap (flat_map (v.seen_places (view_of p))) (filter-over f g seen_of (r.events p) h)
 
 pub bridge_nonblocking : (d : Design) → places_of d Nonblocking ≡ v.nonblocking_views (views_of d)
+unfolding places_of
 bridge_nonblocking d = each (λ k p. r.nonblocking p) (λ k w. flat_map (v.seen_places w) (filter (λ e. v.is_combinational w.way && not e.at_once) w.events)) (parts d) 0
     (λ k p. events_same p (λ e. is_comb p && not e.at_once) (λ e. v.is_combinational (view_of p).way && not e.at_once) (λ e. ap (λ b. b && not e.at_once) (comb p)))
 
@@ -172,6 +174,7 @@ blocking_at d ps k p = two (λ c (xs : List At). if c then xs else []) _ _ _ _ (
     (events_same p (r.is_blocking d ps k) (v.is_blocking_seen (signals_of d) (map view_of ps) k) (blocks d ps k))
 
 pub bridge_blocking : (d : Design) → places_of d Blocking ≡ v.blocking_views (signals_of d) (views_of d)
+unfolding places_of
 bridge_blocking d = each (λ k p. r.blocking d (parts d) k p)
     (λ k w. if v.is_edge w.way then flat_map (v.seen_places w) (filter (v.is_blocking_seen (signals_of d) (views_of d) k) w.events) else []) (parts d) 0
     (λ k p. blocking_at d (parts d) k p)
@@ -207,6 +210,7 @@ two_at d ps k p =
     ap (λ c. v.is_two_view_but (signals_of d) (map view_of ps) k (view_of p) || c) (any-alike (r.is_mixed ps p) (v.is_mixed_view (map view_of ps) (view_of p)) (signals_of d) (mixed ps p))
 
 pub bridge_two : (d : Design) → places_of d TwoDrivers ≡ v.two_views (signals_of d) (views_of d)
+unfolding places_of
 bridge_two d = each (λ k p. r.two_drivers d (parts d) k p) (λ k w. r.told_if (v.is_two_view (signals_of d) (views_of d) k w) (v.aimed_at w)) (parts d) 0
     (λ k p. told _ _ _ _ (two_at d (parts d) k p) (aims p))
 
@@ -228,6 +232,7 @@ undriven_at d ps p = any-alike _ _ (signals_of d) (λ x. two (λ a b. a && b) _ 
     (any-alike _ _ (reads p) (λ b. ap (λ c. has_bit (whole x) b && not c) (driven ps b))))
 
 pub bridge_undriven : (d : Design) → places_of d Undriven ≡ v.undriven_views (signals_of d) (views_of d)
+unfolding places_of
 bridge_undriven d = each (λ k p. r.undriven d (parts d) p) (λ k w. r.told_if (v.is_undriven_view (signals_of d) (views_of d) w) (w.at ∷ [])) (parts d) 0
     (λ k p. told _ _ _ _ (undriven_at d (parts d) p) refl)
 
@@ -244,10 +249,12 @@ first_by a (Comb names s) = read_first_is names s
 first_by a (Clocked names c s) = refl
 
 pub bridge_latch : (d : Design) → places_of d Latch ≡ v.latch_views (views_of d)
+unfolding places_of
 bridge_latch d = each (λ k p. r.latches p) (λ k w. r.told_if (v.is_combinational w.way && leaves_latch w.paths) (w.at ∷ [])) (parts d) 0
     (λ k p. told _ _ _ _ (latch_by p.at p.body) refl)
 
 pub bridge_first : (d : Design) → places_of d ReadFirst ≡ v.first_views (views_of d)
+unfolding places_of
 bridge_first d = each (λ k p. r.read_first p) (λ k w. r.told_if (v.is_combinational w.way && exposes_own w.paths) (w.at ∷ [])) (parts d) 0
     (λ k p. told _ _ _ _ (first_by p.at p.body) refl)
 

@@ -4,7 +4,7 @@ use Rattle.lv_source.specs.Meaning.{read_expr, read_select}
 use Rattle.lv_source.specs.Effect.{pieces, executes, turns, turns_from}
 use Rattle.lv_source.specs.Flow.{flow}
 use Rattle.lv_source.specs.Declarations.{labels}
-use Rattle.lv_source.specs.Parts.{as_target}
+use Rattle.lv_source.specs.Parts.{as_target, parts, scopes_of, signals_of}
 use Rattle.lv_source.specs.Sites.{walk, walk_select, target_sites}
 use Rattle.lv_source.specs.Standing.{standing}
 use Rattle.std.specs.Prelude.{◌≡◌, ℕ, true, false, List, [], ◌∷◌, map, Some, None, codes, refl}
@@ -14,7 +14,7 @@ use Rattle.lv_ast.specs.declared.stmt.Stmt.{Stmt}
 use Rattle.lv_ast.specs.declared.stmt.Stmt.TheVariants as b
 use Rattle.lv_source.specs.Names.{Valuation}
 use Rattle.lv_source.specs.Parts.{Design, parts, after}
-use Rattle.lv_source.specs.Legal.{Latch}
+use Rattle.lv_source.specs.Legal.{Latch, places_of}
 use Rattle.lv_ast.proofs.Build.{name, bin, to, sized, bits, case_of, input, output_reg, module_of, clk, always_star, valued}
 use Rattle.lv_source.proofs.Build.{design_t, refused}
 use Rattle.std.proofs.Common.{◌<◌, ◌^◌, ◌||◌, Bool, false, arith, sym, subst}
@@ -36,16 +36,16 @@ carried = design_t (module_of (codes "t") (clk ∷ input (codes "a") 26 (Some (b
     (always_star (case_of false (bin o.Add (name (codes "a")) (name (codes "b"))) (wide_arm 0 ∷ wide_arm 1 ∷ wide_arm 2 ∷ wide_arm 3 ∷ [])) 52 ∷ []) ∷ [])
 
 carried_is_refused : refused carried ≡ (Latch, 52) ∷ []
-unfolding read_expr read_select pieces executes turns turns_from flow labels as_target walk walk_select target_sites standing digits
+unfolding read_expr read_select pieces executes turns turns_from flow labels as_target walk walk_select target_sites standing digits parts scopes_of signals_of places_of
 carried_is_refused = refl
 
 -- for both values of y are settled where a and b are 3
 keeps_zero : map (λ p. after p (valued ((codes "a", 3) ∷ (codes "b", 3) ∷ (codes "y", 0) ∷ [])) (codes "y")) (parts carried) ≡ 0 ∷ []
-unfolding read_expr read_select pieces executes turns turns_from flow labels as_target walk walk_select target_sites standing digits
+unfolding read_expr read_select pieces executes turns turns_from flow labels as_target walk walk_select target_sites standing digits parts scopes_of signals_of places_of
 keeps_zero = refl
 
 keeps_one : map (λ p. after p (valued ((codes "a", 3) ∷ (codes "b", 3) ∷ (codes "y", 1) ∷ [])) (codes "y")) (parts carried) ≡ 1 ∷ []
-unfolding read_expr read_select pieces executes turns turns_from flow labels as_target walk walk_select target_sites standing digits
+unfolding read_expr read_select pieces executes turns turns_from flow labels as_target walk walk_select target_sites standing digits parts scopes_of signals_of places_of
 keeps_one = refl
 
 -- each value of the selector's own width has a label that fits
@@ -70,7 +70,7 @@ or_false false false false = refl
 
 -- the block leaves both as they are
 settled : (y : ℕ) → y < 2 → IsSettled carried (both y)
-unfolding read_expr read_select pieces executes turns turns_from flow labels as_target walk walk_select target_sites standing digits
+unfolding read_expr read_select pieces executes turns turns_from flow labels as_target walk walk_select target_sites standing digits parts scopes_of signals_of places_of
 settled y h = record {
   fits = λ name. subst (λ (k : ℕ). both y name < 2 ^ k) (sym (or_false (bytes_eq name (codes "a")) (bytes_eq name (codes "b")) (bytes_eq name (codes "y"))))
       (fitting y h (bytes_eq name (codes "a")) (bytes_eq name (codes "b")) (bytes_eq name (codes "y")));

@@ -74,7 +74,7 @@ module _ (names : Names) (st : State) where
 
   pub executes-Loop : (index : Ident) (start test : Expr) (again : Ident) (next : Expr) (s : Stmt) →
       executes names (b.Loop index start test again next s) st ≡
-      each_turn (with_index names index.name index.place) (λ here st. executes here s st) (turns names index.name index.place start test next) st
+      each_turn (with_index names index.name) (λ here st. executes here s st) (turns names index.name start test next) st
   unfolding executes
   executes-Loop index start test again next s =
       ap (λ (f : Effect). f names st) (fold.fold_stmt-Loop Effect (ArmOf Effect) effect_step arm_step index start test again next s)
@@ -105,26 +105,26 @@ executes-Block names st name body =
 
 -- ---- loops
 
-pub turns_from-none : (names : Names) (index : Name) (place : ℕ) (test next : Expr) (value : ℕ) → turns_from zero names index place test next value ≡ []
+pub turns_from-none : (names : Names) (index : Name) (test next : Expr) (value : ℕ) → turns_from zero names index test next value ≡ []
 unfolding turns_from
-turns_from-none names index place test next value = refl
+turns_from-none names index test next value = refl
 
-pub turns_from-stop : (n : ℕ) (names : Names) (index : Name) (place : ℕ) (test next : Expr) (value : ℕ) →
-    (constant_value (with_index names index place value) test == 0) ≡ true → turns_from (suc n) names index place test next value ≡ []
+pub turns_from-stop : (n : ℕ) (names : Names) (index : Name) (test next : Expr) (value : ℕ) →
+    (constant_value (with_index names index value) test == 0) ≡ true → turns_from (suc n) names index test next value ≡ []
 unfolding turns_from
-turns_from-stop n names index place test next value h = rw (h, turns_from)
+turns_from-stop n names index test next value h = rw (h, turns_from)
 
-pub turns_from-turn : (n : ℕ) (names : Names) (index : Name) (place : ℕ) (test next : Expr) (value : ℕ) →
-    (constant_value (with_index names index place value) test == 0) ≡ false →
-    turns_from (suc n) names index place test next value ≡
-    value ∷ turns_from n names index place test next (index_value (with_index names index place value) next)
+pub turns_from-turn : (n : ℕ) (names : Names) (index : Name) (test next : Expr) (value : ℕ) →
+    (constant_value (with_index names index value) test == 0) ≡ false →
+    turns_from (suc n) names index test next value ≡
+    value ∷ turns_from n names index test next (index_value (with_index names index value) next)
 unfolding turns_from
-turns_from-turn n names index place test next value h =
-    let here : Names = with_index names index place value in
-    ap (λ (c : Bool). elim c as (λ _. List ℕ) [ true ↦ [] | false ↦ value ∷ turns_from n names index place test next (index_value here next) ]) h
+turns_from-turn n names index test next value h =
+    let here : Names = with_index names index value in
+    ap (λ (c : Bool). elim c as (λ _. List ℕ) [ true ↦ [] | false ↦ value ∷ turns_from n names index test next (index_value here next) ]) h
 
 pub turns_are : (names : Names) (index : Name) (place : ℕ) (start test next : Expr) →
-    turns names index place start test next ≡ turns_from 1000001 names index place test next (index_value names start)
+    turns names index start test next ≡ turns_from 1000001 names index test next (index_value names start)
 unfolding turns
 turns_are names index place start test next = refl
 

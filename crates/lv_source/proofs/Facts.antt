@@ -9,7 +9,7 @@ use Rattle.lv_source.specs.Places.{Bit, has_bit, same_bit, whole, cells}
 use Rattle.lv_source.specs.Flow.{Event}
 use Rattle.lv_source.specs.Parts.{Design, Part, At, parts, numbered_from, signals_of, is_comb}
 use Rattle.lv_source.specs.PartRules as r
-use Rattle.lv_source.specs.Legal.{IsLegal, NotConstant, WrongKind, Nonblocking, TwoDrivers, Undriven, Latch, ReadFirst}
+use Rattle.lv_source.specs.Legal.{IsLegal, NotConstant, WrongKind, Nonblocking, TwoDrivers, Undriven, Latch, ReadFirst, places_of}
 use Rattle.lv_source.proofs.Each.{Each}
 use Rattle.lv_source.proofs.Tests.{or-left, or-right, or-split, or-none_right, any-left, any-right, same_bits, same_name}
 
@@ -144,33 +144,41 @@ whole_any q (d ∷ ds) (suc k) x b e t m = elim (q d) as (λ c. has_bit (flat_ma
 
 module _ (d : Design) (legal : IsLegal d) (k : ℕ) (p : Part) (e : slice_get (parts d) k ≡ Some p) where
   pub no_latch : r.has_latch p ≡ false
+  unfolding places_of
   no_latch = told_none (r.has_latch p) p.at [] (numbered_none (λ kp. r.latches kp.1) (parts d) 0 (legal.nothing Latch) k p e).1
 
   pub no_read_first : r.reads_itself_first p ≡ false
+  unfolding places_of
   no_read_first = told_none (r.reads_itself_first p) p.at [] (numbered_none (λ kp. r.read_first kp.1) (parts d) 0 (legal.nothing ReadFirst) k p e).1
 
   pub no_nonblocking : list_any (λ x. is_comb p && not x.at_once) (r.events p) ≡ false
+  unfolding places_of
   no_nonblocking =
       filtered_none (r.event_places p) (λ (x : Event). is_comb p && not x.at_once) (r.events p) (λ x h. cc)
       (numbered_none (λ kp. r.nonblocking kp.1) (parts d) 0 (legal.nothing Nonblocking) k p e).1
 
   pub no_unfixed : r.is_unfixed p ≡ false
+  unfolding places_of
   no_unfixed =
       told_none (r.is_unfixed p) p.at _ (numbered_none (λ kp. r.unfixed_targets kp.1) (parts d) 0
       (append-none_right _ _ (legal.nothing NotConstant)) k p e).1
 
   pub no_wrong_kind : r.is_wrong_kind d p ≡ false
+  unfolding places_of
   no_wrong_kind = told_none (r.is_wrong_kind d p) p.at _ (numbered_none (λ kp. r.wrong_kinds d kp.1) (parts d) 0 (legal.nothing WrongKind) k p e).1
 
   pub no_undriven : r.is_undriven d (parts d) p ≡ false
+  unfolding places_of
   no_undriven = told_none (r.is_undriven d (parts d) p) p.at [] (numbered_none (λ kp. r.undriven d (parts d) kp.1) (parts d) 0 (legal.nothing Undriven) k p e).1
 
   pub no_mixed : list_any (r.is_mixed (parts d) p) (signals_of d) ≡ false
+  unfolding places_of
   no_mixed =
       let told : (i : ℕ) × (r.two_drivers d (parts d) i p ≡ []) = numbered_none (λ kp. r.two_drivers d (parts d) kp.0 kp.1) (parts d) 0 (legal.nothing TwoDrivers) k p e in
       or-none_right _ (list_any (r.is_mixed (parts d) p) (signals_of d)) (told_none (r.is_two_drivers d (parts d) told.0 p) p.at _ told.1)
 
   pub no_two : r.is_two_drivers d (parts d) k p ≡ false
+  unfolding places_of
   no_two =
       let told : r.two_drivers d (parts d) (0 + k) p ≡ [] = numbered_at (λ kp. r.two_drivers d (parts d) kp.0 kp.1) (parts d) 0 (legal.nothing TwoDrivers) k p e in
       let z : 0 + k ≡ k = omega arith in

@@ -4,7 +4,7 @@ use Rattle.std.specs.Prelude.{flat_map, Contains}
 use Rattle.lv_ast.specs.declared.item.Source.{Source}
 use Rattle.lv_source.specs.Scopes.{Scope}
 use Rattle.lv_source.specs.Parts.{Design, Part, At, parts, scopes_of, numbered_from}
-use Rattle.lv_source.specs.Sites.{Site}
+use Rattle.lv_source.specs.Sites.{Spot}
 use Rattle.lv_source.specs.ScopeRules as r
 use Rattle.lv_source.specs.Legal.{Kind, UnknownModule, UnknownName, Duplicate, NotConstant, ZeroDivisor, Range, Recursion, Port, WrongKind, ClockUse, Blocking, Nonblocking, TwoDrivers, Undriven, Latch, ReadFirst, places_of, HoldsAt, in_scopes, at_parts}
 use Rattle.lv_source.specs.Faults.{site_faults, other_faults, scope_faults, design_faults, part_faults, faults}
@@ -32,13 +32,13 @@ alike_over f g h (s ∷ ss) = two (λ (a b : List At). a ++ b) _ _ _ _ (ap (map 
 alike_in : (d : Design) (f g : Scope → List ℕ) → ((s : Scope) → f s ≡ g s) → in_scopes d f ≡ in_scopes d g
 alike_in d f g h = alike_over f g h (scopes_of d)
 
-no_sites : (d : Design) (f : Scope → List ℕ) → in_scopes d (λ s. flat_map (none_of {A = Site} {B = ℕ}) (r.scope_sites d.source s) ++ f s) ≡ in_scopes d f
-no_sites d f = alike_in d _ f (λ s. ap (λ (ns : List ℕ). ns ++ f s) (flat-none (r.scope_sites d.source s)))
+no_sites : (d : Design) (f : Scope → List ℕ) → in_scopes d (λ s. flat_map (none_of {A = Spot} {B = ℕ}) (r.scope_spots d.source s) ++ f s) ≡ in_scopes d f
+no_sites d f = alike_in d _ f (λ s. ap (λ (ns : List ℕ). ns ++ f s) (flat-none (r.scope_spots d.source s)))
 
 no_more : (d : Design) (f : Scope → List ℕ) → in_scopes d (λ s. f s ++ []) ≡ in_scopes d f
 no_more d f = alike_in d _ f (λ s. append-none (f s))
 
-no_scopes : (d : Design) → in_scopes d (λ s. flat_map (none_of {A = Site} {B = ℕ}) (r.scope_sites d.source s) ++ []) ≡ []
+no_scopes : (d : Design) → in_scopes d (λ s. flat_map (none_of {A = Spot} {B = ℕ}) (r.scope_spots d.source s) ++ []) ≡ []
 no_scopes d = no_sites d (λ s. []) ∙ flat-none (scopes_of d)
 
 no_parts : (d : Design) → at_parts d (λ ps k q. []) ≡ []
@@ -48,21 +48,22 @@ no_parts d = flat-none (numbered_from 0 (parts d))
 of_scopes : (d : Design) (xs : List At) (f g : Scope → List ℕ) → in_scopes d f ≡ in_scopes d g → xs ++ in_scopes d f ++ at_parts d (λ ps k q. []) ≡ xs ++ in_scopes d g
 of_scopes d xs f g h = two (λ (a b : List At). a ++ b) _ _ _ _ (ap (λ ys. xs ++ ys) h) (no_parts d) ∙ append-none (xs ++ in_scopes d g)
 
-of_parts : (d : Design) (f : List Part → ℕ → Part → List At) → in_scopes d (λ s. flat_map (none_of {A = Site} {B = ℕ}) (r.scope_sites d.source s) ++ []) ++ at_parts d f ≡ at_parts d f
+of_parts : (d : Design) (f : List Part → ℕ → Part → List At) → in_scopes d (λ s. flat_map (none_of {A = Spot} {B = ℕ}) (r.scope_spots d.source s) ++ []) ++ at_parts d f ≡ at_parts d f
 of_parts d f = ap (λ xs. xs ++ at_parts d f) (no_scopes d)
 
 range_order : (a b c e : List ℕ) → a ++ ((b ++ c) ++ e) ≡ ((a ++ b) ++ c) ++ e
 range_order a b c e = sym (append_assoc a (b ++ c) e) ∙ ap (λ xs. xs ++ e) (sym (append_assoc a b c))
 
 pub faults_are : (d : Design) (kind : Kind) → faults d kind ≡ places_of d kind
+unfolding places_of
 faults_are d UnknownModule = of_scopes d _ _ (r.unknown_modules d.source) (no_sites d (r.unknown_modules d.source))
 faults_are d UnknownName = of_scopes d [] (scope_faults d.source UnknownName) (r.unknown_names d.source) (alike_in d (scope_faults d.source UnknownName) (r.unknown_names d.source) (λ s.
-    sym (append_assoc (flat_map (site_faults UnknownName) (r.scope_sites d.source s)) (flat_map r.unknown_in_form (r.scope_standing s)) (r.at_items (r.unknown_in_item d.source) s))))
+    sym (append_assoc (flat_map (site_faults UnknownName) (r.scope_spots d.source s)) (flat_map r.unknown_in_form (r.scope_standing s)) (r.at_items (r.unknown_in_item d.source) s))))
 faults_are d Duplicate = of_scopes d _ _ r.duplicates (no_sites d r.duplicates)
 faults_are d NotConstant = ap (λ xs. xs ++ at_parts d (part_faults d NotConstant)) (no_more d (r.not_constants d.source))
 faults_are d ZeroDivisor = of_scopes d [] _ (r.zero_divisors d.source) (no_more d (r.zero_divisors d.source))
 faults_are d Range = of_scopes d [] (scope_faults d.source Range) (r.ranges d.source) (alike_in d (scope_faults d.source Range) (r.ranges d.source) (λ s.
-    range_order (flat_map (site_faults Range) (r.scope_sites d.source s)) (r.at_declarations r.range_fault s) (flat_map r.range_in_form (r.scope_standing s)) (r.at_items r.range_in_item s)))
+    range_order (flat_map (site_faults Range) (r.scope_spots d.source s)) (flat_map (r.range_fault s.names) s.declarations) (flat_map r.range_in_form (r.scope_standing s)) (r.at_items r.range_in_item s)))
 faults_are d Recursion = of_scopes d [] _ (r.recursions d.source) (no_sites d (r.recursions d.source))
 faults_are d Port = of_scopes d [] _ (r.ports d.source) (no_sites d (r.ports d.source))
 faults_are d WrongKind = of_parts d (part_faults d WrongKind)
@@ -103,15 +104,15 @@ scope_told d kind s place h k =
     (in-mapped (at_of s) place (scope_faults d.source kind s) (contains_in place (scope_faults d.source kind s) k)))))
 
 -- a fault of a node, in its scope
-pub site_told : (source : Source) (kind : Kind) (s : Scope) (x : Site) (place : ℕ) → Contains (r.scope_sites source s) x → Contains (site_faults kind x) place →
+pub site_told : (source : Source) (kind : Kind) (s : Scope) (x : Spot) (place : ℕ) → Contains (r.scope_spots source s) x → Contains (site_faults kind x) place →
     Contains (scope_faults source kind s) place
 site_told source kind s x place h k =
-    in_contains place (scope_faults source kind s) (in-left place (flat_map (site_faults kind) (r.scope_sites source s)) (other_faults source kind s)
-    (in-flat (site_faults kind) x place (r.scope_sites source s) (contains_in x (r.scope_sites source s) h) (contains_in place (site_faults kind x) k)))
+    in_contains place (scope_faults source kind s) (in-left place (flat_map (site_faults kind) (r.scope_spots source s)) (other_faults source kind s)
+    (in-flat (site_faults kind) x place (r.scope_spots source s) (contains_in x (r.scope_spots source s) h) (contains_in place (site_faults kind x) k)))
 
 pub other_told : (source : Source) (kind : Kind) (s : Scope) (place : ℕ) → Contains (other_faults source kind s) place → Contains (scope_faults source kind s) place
 other_told source kind s place h =
-    in_contains place (scope_faults source kind s) (in-right place (flat_map (site_faults kind) (r.scope_sites source s)) (other_faults source kind s) (contains_in place (other_faults source kind s) h))
+    in_contains place (scope_faults source kind s) (in-right place (flat_map (site_faults kind) (r.scope_spots source s)) (other_faults source kind s) (contains_in place (other_faults source kind s) h))
 
 -- ---- no fault
 

@@ -225,7 +225,7 @@ mutual
   follows_by (b.If' c n s other) = if_runs c _ _ _ _ (one_follows s) (held_follows other)
   follows_by (b.Case' wild x n arms) = λ names. case_runs wild x _ _ (arms_follow arms) names
   follows_by (b.Loop' index start test again next n s) =
-      λ names. loop_runs _ _ (one_follows s) (with_index names index.name index.place) (turns names index.name index.place start test next)
+      λ names. loop_runs _ _ (one_follows s) (with_index names index.name) (turns names index.name start test next)
   follows_by (b.Now target x place) = λ names. now_runs names target x place
   follows_by (b.Later target x place) = λ names. later_runs names target x place _
 

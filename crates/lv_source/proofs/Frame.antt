@@ -197,7 +197,7 @@ mutual
   keeps_by (b.If' c n s other) = if_keeps c _ _ _ _ (one_keeps s) (held_keeps other)
   keeps_by (b.Case' wild x n arms) = case_keeps wild x _ _ (arms_keep arms)
   keeps_by (b.Loop' index start test again next n s) =
-      λ names. loop_keeps _ _ (one_keeps s) (with_index names index.name index.place) (turns names index.name index.place start test next)
+      λ names. loop_keeps _ _ (one_keeps s) (with_index names index.name) (turns names index.name start test next)
   keeps_by (b.Now target x place) = λ names. now_keeps names target x place
   keeps_by (b.Later target x place) = λ names. later_keeps names target x place
 

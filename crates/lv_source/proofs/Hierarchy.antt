@@ -4,7 +4,7 @@ use Rattle.lv_source.specs.Meaning.{read_expr, read_select}
 use Rattle.lv_source.specs.Effect.{pieces, executes, turns, turns_from}
 use Rattle.lv_source.specs.Flow.{flow}
 use Rattle.lv_source.specs.Declarations.{labels}
-use Rattle.lv_source.specs.Parts.{as_target}
+use Rattle.lv_source.specs.Parts.{as_target, parts, scopes_of, signals_of}
 use Rattle.lv_source.specs.Sites.{walk, walk_select, target_sites}
 use Rattle.lv_source.specs.Standing.{standing}
 use Rattle.std.specs.Prelude.{◌≡◌, ℕ, true, false, [], ◌∷◌, map, Some, None, codes, refl}
@@ -21,6 +21,7 @@ use Rattle.lv_source.specs.Meaning.{constant_value}
 use Rattle.lv_source.specs.Parts.{Design, parts, scopes_of, signals_of, registers_of, inputs_of, after}
 use Rattle.lv_ast.proofs.Build.{id, name, bin, un, to, bit, chosen, plain, bits, input, output, output_reg, module_of, clk, at_clock, wire, wire_with, valued, turns_of, linked, ordered, width}
 use Rattle.lv_source.proofs.Build.{design_t, refused}
+use Rattle.lv_source.specs.Legal.{places_of}
 
 -- ---- division and constants
 
@@ -32,12 +33,12 @@ no_names p = None
 
 -- 7 / 2 - 1
 seven_by_two : constant_value no_names (bin o.Sub (divided_by (plain 7) (plain 2)) (plain 1)) ≡ 2
-unfolding read_expr read_select pieces executes turns turns_from flow labels as_target walk walk_select target_sites standing digits
+unfolding read_expr read_select pieces executes turns turns_from flow labels as_target walk walk_select target_sites standing digits parts scopes_of signals_of places_of
 seven_by_two = refl
 
 -- (-7) / 2, towards zero
 minus_seven_by_two : constant_value no_names (divided_by (un o.Neg (plain 7)) (plain 2)) ≡ 4294967293
-unfolding read_expr read_select pieces executes turns turns_from flow labels as_target walk walk_select target_sites standing digits
+unfolding read_expr read_select pieces executes turns turns_from flow labels as_target walk walk_select target_sites standing digits parts scopes_of signals_of places_of
 minus_seven_by_two = refl
 
 -- ---- a parameter that sets a width, and an instance that sets the parameter
@@ -70,32 +71,32 @@ two_instances = design_t (
     module_s ∷ [])
 
 paths : map (λ s. s.path) (scopes_of two_instances) ≡ [] ∷ codes "\\u+ " ∷ codes "v" ∷ []
-unfolding read_expr read_select pieces executes turns turns_from flow labels as_target walk walk_select target_sites standing digits
+unfolding read_expr read_select pieces executes turns turns_from flow labels as_target walk walk_select target_sites standing digits parts scopes_of signals_of places_of
 paths = refl
 
 registers_are : registers_of two_instances ≡ codes "\\u+ .q" ∷ codes "v.q" ∷ []
-unfolding read_expr read_select pieces executes turns turns_from flow labels as_target walk walk_select target_sites standing digits
+unfolding read_expr read_select pieces executes turns turns_from flow labels as_target walk walk_select target_sites standing digits parts scopes_of signals_of places_of
 registers_are = refl
 
 inputs_are : inputs_of two_instances ≡ codes "x" ∷ []
-unfolding read_expr read_select pieces executes turns turns_from flow labels as_target walk walk_select target_sites standing digits
+unfolding read_expr read_select pieces executes turns turns_from flow labels as_target walk walk_select target_sites standing digits parts scopes_of signals_of places_of
 inputs_are = refl
 
 widths_are : map (λ s. width_of s) (signals_of two_instances) ≡ 8 ∷ 4 ∷ 8 ∷ 8 ∷ 8 ∷ 4 ∷ 4 ∷ []
-unfolding read_expr read_select pieces executes turns turns_from flow labels as_target walk walk_select target_sites standing digits
+unfolding read_expr read_select pieces executes turns turns_from flow labels as_target walk walk_select target_sites standing digits parts scopes_of signals_of places_of
 widths_are = refl
 
 is_legal : refused two_instances ≡ []
-unfolding read_expr read_select pieces executes turns turns_from flow labels as_target walk walk_select target_sites standing digits
+unfolding read_expr read_select pieces executes turns turns_from flow labels as_target walk walk_select target_sites standing digits parts scopes_of signals_of places_of
 is_legal = refl
 
 places_are : map (λ p. p.at.place) (parts two_instances) ≡ 92 ∷ 93 ∷ 112 ∷ 113 ∷ 35 ∷ 35 ∷ []
-unfolding read_expr read_select pieces executes turns turns_from flow labels as_target walk walk_select target_sites standing digits
+unfolding read_expr read_select pieces executes turns turns_from flow labels as_target walk walk_select target_sites standing digits parts scopes_of signals_of places_of
 places_are = refl
 
 -- the connection of a drops the high bits
 dropped : map (λ p. after p (valued ((codes "x", 255) ∷ [])) (codes "v.a")) (parts two_instances) ≡ 0 ∷ 0 ∷ 15 ∷ 0 ∷ 0 ∷ 0 ∷ []
-unfolding read_expr read_select pieces executes turns turns_from flow labels as_target walk walk_select target_sites standing digits
+unfolding read_expr read_select pieces executes turns turns_from flow labels as_target walk walk_select target_sites standing digits parts scopes_of signals_of places_of
 dropped = refl
 
 -- ---- a generate loop: for (g = 0; g < 2; g = g + 1) begin : lane wire w = x[g]; end
@@ -107,13 +108,13 @@ lanes = design_t (module_of (codes "t") (clk ∷ input (codes "x") 60 (Some (bit
     (wire_with (codes "w") 95 None (chosen (codes "x") (bit (name (codes "g")) ∷ [])) ∷ []) ∷ []) ∷ [])
 
 lane_paths : map (λ s. s.path) (signals_of lanes) ≡ codes "x" ∷ codes "lane[0].w" ∷ codes "lane[1].w" ∷ []
-unfolding read_expr read_select pieces executes turns turns_from flow labels as_target walk walk_select target_sites standing digits
+unfolding read_expr read_select pieces executes turns turns_from flow labels as_target walk walk_select target_sites standing digits parts scopes_of signals_of places_of
 lane_paths = refl
 
 lane_values : map (λ p. after p (valued ((codes "x", 2) ∷ [])) (codes "lane[1].w")) (parts lanes) ≡ 0 ∷ 1 ∷ []
-unfolding read_expr read_select pieces executes turns turns_from flow labels as_target walk walk_select target_sites standing digits
+unfolding read_expr read_select pieces executes turns turns_from flow labels as_target walk walk_select target_sites standing digits parts scopes_of signals_of places_of
 lane_values = refl
 
 lanes_legal : refused lanes ≡ []
-unfolding read_expr read_select pieces executes turns turns_from flow labels as_target walk walk_select target_sites standing digits
+unfolding read_expr read_select pieces executes turns turns_from flow labels as_target walk walk_select target_sites standing digits parts scopes_of signals_of places_of
 lanes_legal = refl

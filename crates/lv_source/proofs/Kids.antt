@@ -19,7 +19,7 @@ use Rattle.lv_ast.specs.Names.{Name, spelled, below, signed_decimal}
 use Rattle.lv_source.specs.Names.{Names}
 use Rattle.lv_source.specs.Effect.{turns, turns_from, index_value, with_index}
 use Rattle.lv_source.specs.Declarations.{Thing, Direction, Wire, Reg, Parameter, Index, Instance, Label, Declaration, declare, of_item, of_items, declared_as}
-use Rattle.lv_source.specs.Scopes.{Scope, module_named, instance_scopes, instance_scope, turn_scope, names_at, children_by, counted_from, is_among}
+use Rattle.lv_source.specs.Scopes.{Scope, module_named, instance_scopes, instance_scope, turn_scope, children_by, counted_from, is_among}
 use Rattle.lv_source.specs.ScopeRules.{completes, is_pair, is_nil, place_if, declared_again, listed_ports, duplicates}
 use Rattle.lv_source.proofs.Tests.{name-itself}
 use Rattle.lv_source.proofs.Facts.{some_same, numbered_at}
@@ -158,18 +158,18 @@ turn_if : (b : Bool) (v value : ℕ) (rest : List ℕ) → In v (elim b as (λ _
 turn_if true v value rest h = absurd h
 turn_if false v value rest h = h
 
-turn_small : (n : ℕ) (names : Names) (index : Name) (place : ℕ) (test next : Expr) (value v : ℕ) → value < 2 ^ 32 → In v (turns_from n names index place test next value) → v < 2 ^ 32
+turn_small : (n : ℕ) (names : Names) (index : Name) (test next : Expr) (value v : ℕ) → value < 2 ^ 32 → In v (turns_from n names index test next value) → v < 2 ^ 32
 unfolding turns_from
-turn_small zero names index place test next value v small h = absurd h
-turn_small (suc n) names index place test next value v small h =
-    elim (turn_if _ v value (turns_from n names index place test next (index_value (with_index names index place value) next)) h) [
+turn_small zero names index test next value v small h = absurd h
+turn_small (suc n) names index test next value v small h =
+    elim (turn_if _ v value (turns_from n names index test next (index_value (with_index names index value) next)) h) [
       | inl e ↦ subst (λ (k : ℕ). k < 2 ^ 32) e small
-      | inr i ↦ turn_small n names index place test next (index_value (with_index names index place value) next) v (below_limit _) i
+      | inr i ↦ turn_small n names index test next (index_value (with_index names index value) next) v (below_limit _) i
     ]
 
-turns_small : (names : Names) (index : Name) (place : ℕ) (start test next : Expr) (v : ℕ) → In v (turns names index place start test next) → v < 2 ^ 32
+turns_small : (names : Names) (index : Name) (start test next : Expr) (v : ℕ) → In v (turns names index start test next) → v < 2 ^ 32
 unfolding turns
-turns_small names index place start test next v h = turn_small 1000001 names index place test next (index_value names start) v (below_limit _) h
+turns_small names index start test next v h = turn_small 1000001 names index test next (index_value names start) v (below_limit _) h
 
 unsign : ℤ → ℕ
 unsign (pos n) = n
@@ -226,24 +226,24 @@ index_text_same v w h k e =
     text_same v w h k (split_index (turn_text v) (turn_text w) [] [] (signed_plain (signed_of 32 v)) (signed_plain (signed_of 32 w))
     (sym (no_index _) ∙ (same_rest 91 91 _ _ e ∙ no_index _))).0
 
-module _ (s : Scope) (names : Names) (index label : Ident) (items : List Item) (ks : List ℕ) (small : (v : ℕ) → In v ks → v < 2 ^ 32) where
-  turn_path : (v : ℕ) → (turn_scope s names index label items v).path ≡ below s.path (spelled label.name ++ index_text v)
+module _ (s : Scope) (before : ℕ) (index label : Ident) (items : List Item) (ks : List ℕ) (small : (v : ℕ) → In v ks → v < 2 ^ 32) where
+  turn_path : (v : ℕ) → (turn_scope s before index label items v).path ≡ below s.path (spelled label.name ++ index_text v)
   unfolding index_text turn_text
   turn_path v = ap (below s.path) (indexed (spelled label.name) (signed_decimal (signed_of 32 v)))
 
-  turns_headed : (c : Scope) → In c (map (turn_scope s names index label items) ks) → Headed s (declare Label label ∷ []) c
+  turns_headed : (c : Scope) → In c (map (turn_scope s before index label items) ks) → Headed s (declare Label label ∷ []) c
   turns_headed c h =
-      let v : (v : ℕ) × In v ks × (turn_scope s names index label items v ≡ c) = mapped-from (turn_scope s names index label items) c ks h in
+      let v : (v : ℕ) × In v ks × (turn_scope s before index label items v ≡ c) = mapped-from (turn_scope s before index label items) c ks h in
       record { from = declare Label label; among = inl refl; head = refl; index = index_text v.0; is_index = index_text_is v.0; path = ap (λ (z : Scope). z.path) (sym v.2) ∙ turn_path v.0 }
 
-  turns_differ : (c e : Scope) → IsPlain label.name → In c (map (turn_scope s names index label items) ks) → In e (map (turn_scope s names index label items) ks) → c.path ≡ e.path → c ≡ e
+  turns_differ : (c e : Scope) → IsPlain label.name → In c (map (turn_scope s before index label items) ks) → In e (map (turn_scope s before index label items) ks) → c.path ≡ e.path → c ≡ e
   turns_differ c e p h k q =
-      let v : (v : ℕ) × In v ks × (turn_scope s names index label items v ≡ c) = mapped-from (turn_scope s names index label items) c ks h in
-      let w : (v : ℕ) × In v ks × (turn_scope s names index label items v ≡ e) = mapped-from (turn_scope s names index label items) e ks k in
+      let v : (v : ℕ) × In v ks × (turn_scope s before index label items v ≡ c) = mapped-from (turn_scope s before index label items) c ks h in
+      let w : (v : ℕ) × In v ks × (turn_scope s before index label items v ≡ e) = mapped-from (turn_scope s before index label items) e ks k in
       let t : (label.name ≡ label.name) × (index_text v.0 ≡ index_text w.0) =
       same_head s.path label.name label.name (index_text v.0) (index_text w.0) c.path e.path p p (index_text_is v.0) (index_text_is w.0)
       (ap (λ (z : Scope). z.path) (sym v.2) ∙ turn_path v.0) (ap (λ (z : Scope). z.path) (sym w.2) ∙ turn_path w.0) q in
-      sym v.2 ∙ (ap (turn_scope s names index label items) (index_text_same v.0 w.0 (small v.0 v.1) (small w.0 w.1) t.1) ∙ w.2)
+      sym v.2 ∙ (ap (turn_scope s before index label items) (index_text_same v.0 w.0 (small v.0 v.1) (small w.0 w.1) t.1) ∙ w.2)
 
 -- ---- items
 
@@ -251,7 +251,7 @@ module _ (source : Source) (s : Scope) where
   item_headed : (k : ℕ) (x : Item) (c : Scope) → In c (children_by source s (k, x)) → Headed s (of_item x) c
   item_headed k (i.Instance kind settings insts) c h = insts_headed s settings (module_named source kind.name) insts c h
   item_headed k (i.Loop' index start test again next label n items) c h =
-      turns_headed s (names_at s k) index label (spread_all items) (turns s.names index.name index.place start test next) (turns_small s.names index.name index.place start test next) c h
+      turns_headed s k index label (spread_all items) (turns s.names index.name start test next) (turns_small s.names index.name start test next) c h
   item_headed k (i.Port a) c h = absurd h
   item_headed k (i.Wire signed range names) c h = absurd h
   item_headed k (i.Reg signed range names) c h = absurd h
@@ -264,7 +264,7 @@ module _ (source : Source) (s : Scope) where
   item_differ : (k : ℕ) (x : Item) (c e : Scope) → Once (of_item x) → AllPlain (of_item x) → In c (children_by source s (k, x)) → In e (children_by source s (k, x)) → c.path ≡ e.path → c ≡ e
   item_differ k (i.Instance kind settings insts) c e o p a b q = insts_differ s settings (module_named source kind.name) insts c e o p a b q
   item_differ k (i.Loop' index start test again next label n items) c e o p a b q =
-      turns_differ s (names_at s k) index label (spread_all items) (turns s.names index.name index.place start test next) (turns_small s.names index.name index.place start test next) c e (p (declare Label label) (inl refl)) a b q
+      turns_differ s k index label (spread_all items) (turns s.names index.name start test next) (turns_small s.names index.name start test next) c e (p (declare Label label) (inl refl)) a b q
   item_differ k (i.Port x) c e o p a b q = absurd a
   item_differ k (i.Wire signed range names) c e o p a b q = absurd a
   item_differ k (i.Reg signed range names) c e o p a b q = absurd a

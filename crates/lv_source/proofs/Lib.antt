@@ -8,6 +8,8 @@ pub mod Chains
 pub mod DesignA
 pub mod DesignM
 pub mod Determined
+pub mod Driven
+pub mod Drives
 pub mod Each
 pub mod Effects
 pub mod Exists
@@ -17,11 +19,14 @@ pub mod FaultLaws
 pub mod Fits
 pub mod Follows
 pub mod Frame
+pub mod Given
 pub mod Hierarchy
 pub mod Induction
 pub mod Kids
 pub mod LegalA
+pub mod Listed
 pub mod Mends
+pub mod Nesting
 pub mod Numbers
 pub mod Paths
 pub mod Pieces
@@ -38,6 +43,7 @@ pub mod Settles
 pub mod SettlesA
 pub mod Shaped
 pub mod Summaries
+pub mod Tables
 pub mod Tests
 pub mod Trees
 pub mod Unique

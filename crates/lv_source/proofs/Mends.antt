@@ -4,7 +4,7 @@ use Rattle.lv_source.specs.Meaning.{read_expr, read_select, value_of}
 use Rattle.lv_source.specs.Effect.{pieces, executes, turns, turns_from}
 use Rattle.lv_source.specs.Flow.{flow}
 use Rattle.lv_source.specs.Declarations.{labels}
-use Rattle.lv_source.specs.Parts.{as_target}
+use Rattle.lv_source.specs.Parts.{as_target, parts, scopes_of, signals_of}
 use Rattle.lv_source.specs.Sites.{walk, walk_select, target_sites}
 use Rattle.lv_source.specs.Standing.{standing}
 use Rattle.lv_source.specs.Limits.{design_size, expr_nodes, target_nodes, stmt_size}
@@ -23,7 +23,7 @@ use Rattle.lv_ast.specs.declared.item.Watch.TheVariants as w
 use Rattle.lv_ast.specs.Names.{alone}
 use Rattle.lv_source.specs.Names.{Names, Sort, Constant, known}
 use Rattle.lv_source.specs.Parts.{Design, scopes_of}
-use Rattle.lv_source.specs.Legal.{UnknownName, ClockUse, ZeroDivisor, Duplicate, Port, Range, Nonblocking}
+use Rattle.lv_source.specs.Legal.{UnknownName, ClockUse, ZeroDivisor, Duplicate, Port, Range, Nonblocking, places_of}
 use Rattle.lv_ast.proofs.Build.{id, name, bin, cat, path, div, plain, sized, bits, input, output, output_reg, module_of, clk, always_star, linked}
 use Rattle.lv_source.proofs.Build.{design_t, refused}
 
@@ -52,15 +52,15 @@ abbrev small : Expr
 small = div (sized 8 1) (div (sized 8 100) (bin o.Add (sized 8 200) (sized 8 100)))
 
 eighth_legal : refused (with_p eighth) ≡ []
-unfolding read_expr read_select pieces executes turns turns_from flow labels as_target walk walk_select target_sites standing digits
+unfolding read_expr read_select pieces executes turns turns_from flow labels as_target walk walk_select target_sites standing digits parts scopes_of signals_of places_of
 eighth_legal = refl
 
 eighth_is : map (λ s. (known (s.names (alone (codes "P")))).sort) (scopes_of (with_p eighth)) ≡ Sort.Other ∷ Constant 0 ∷ []
-unfolding read_expr read_select pieces executes turns turns_from flow labels as_target walk walk_select target_sites standing digits
+unfolding read_expr read_select pieces executes turns turns_from flow labels as_target walk walk_select target_sites standing digits parts scopes_of signals_of places_of
 eighth_is = refl
 
 small_told : refused (with_p small) ≡ (ZeroDivisor, 0) ∷ (ZeroDivisor, 0) ∷ []
-unfolding read_expr read_select pieces executes turns turns_from flow labels as_target walk walk_select target_sites standing digits
+unfolding read_expr read_select pieces executes turns turns_from flow labels as_target walk walk_select target_sites standing digits parts scopes_of signals_of places_of
 small_told = refl
 
 -- ---- a clock name is driven by a `wire` with a value
@@ -85,7 +85,7 @@ driven_told : map refused (
       conns = linked (codes "clk") (name (codes "clk")) 91 ∷ linked (codes "d") (name (codes "d")) 92 ∷ [];
     } ∷ []) ∷ []) ∷ driven_clock (codes "s") 110 (clock_is_d 140 ∷ []) ∷ []) ∷ []) ≡
     ((ClockUse, 40) ∷ []) ∷ ((ClockUse, 140) ∷ []) ∷ []
-unfolding read_expr read_select pieces executes turns turns_from flow labels as_target walk walk_select target_sites standing digits
+unfolding read_expr read_select pieces executes turns turns_from flow labels as_target walk walk_select target_sites standing digits parts scopes_of signals_of places_of
 driven_told = refl
 
 -- ---- `posedge` before a parameter, a signal, and a name without a declaration
@@ -100,7 +100,7 @@ edge_of n = design_t (record {
 
 edges_told : map (λ n. refused (edge_of n)) (codes "P" ∷ codes "d" ∷ codes "z" ∷ codes "clk" ∷ []) ≡
     ((UnknownName, 60) ∷ (ClockUse, 50) ∷ (ClockUse, 60) ∷ []) ∷ ((ClockUse, 50) ∷ (ClockUse, 60) ∷ []) ∷ ((UnknownName, 60) ∷ (ClockUse, 50) ∷ (ClockUse, 60) ∷ []) ∷ [] ∷ []
-unfolding read_expr read_select pieces executes turns turns_from flow labels as_target walk walk_select target_sites standing digits
+unfolding read_expr read_select pieces executes turns turns_from flow labels as_target walk walk_select target_sites standing digits parts scopes_of signals_of places_of
 edges_told = refl
 
 -- ---- a range counts once for all names that it is for: wire [3:0] a, b;
@@ -109,7 +109,7 @@ abbrev two_wires : Design
 two_wires = design_t (module_of (codes "t") (clk ∷ []) (i.Wire false (Some (bits 3 0)) (record { name = id (codes "a") 36; value = None } ∷ record { name = id (codes "b") 38; value = None } ∷ []) ∷ []) ∷ [])
 
 two_nodes : (design_size two_wires).nodes ≡ 2
-unfolding expr_nodes target_nodes stmt_size read_expr read_select pieces executes turns turns_from flow labels as_target walk walk_select target_sites standing digits
+unfolding expr_nodes target_nodes stmt_size read_expr read_select pieces executes turns turns_from flow labels as_target walk walk_select target_sites standing digits parts scopes_of signals_of places_of
 two_nodes = refl
 
 -- ---- a result of one bit, a concatenation and a replication are extended by the sign that reaches them
@@ -146,7 +146,7 @@ three_at = e.Lit (record { size = None; plain = true; signed = true; value = 3; 
 
 joined_told : map (λ x. refused (joined_output x)) (cat (name (codes "a") ∷ three_at ∷ []) ∷ three_at ∷ []) ≡
     ((Range, 94) ∷ (Port, 92) ∷ (Port, 92) ∷ (Port, 0) ∷ []) ∷ ((Port, 92) ∷ (Port, 92) ∷ (Port, 94) ∷ []) ∷ []
-unfolding read_expr read_select pieces executes turns turns_from flow labels as_target walk walk_select target_sites standing digits
+unfolding read_expr read_select pieces executes turns turns_from flow labels as_target walk walk_select target_sites standing digits parts scopes_of signals_of places_of
 joined_told = refl
 
 -- ---- two directions of two ranges: module t(a); input [3:0] a; input [7:0] a; endmodule
@@ -160,7 +160,7 @@ two_directions = design_t (record {
 } ∷ [])
 
 directions_told : refused two_directions ≡ (Duplicate, 30) ∷ (Port, 20) ∷ (Port, 30) ∷ (Port, 30) ∷ (Port, 20) ∷ []
-unfolding read_expr read_select pieces executes turns turns_from flow labels as_target walk walk_select target_sites standing digits
+unfolding read_expr read_select pieces executes turns turns_from flow labels as_target walk walk_select target_sites standing digits parts scopes_of signals_of places_of
 directions_told = refl
 
 -- ---- `{a, b} <= x` in a combinational block is told at the brace or at a
@@ -170,5 +170,5 @@ braced = design_t (module_of (codes "t") (clk ∷ output_reg (codes "a") 30 None
     (always_star (b.Later (t.Cat' (tt ∷ tt ∷ []) (more_of-Target (t.Name (path (codes "a") 51) []) (more_of-Target (t.Name (path (codes "b") 54) []) end_of-Target))) (sized 2 1) 50) 42 ∷ []) ∷ [])
 
 braced_told : refused braced ≡ (Nonblocking, 50) ∷ (Nonblocking, 51) ∷ []
-unfolding read_expr read_select pieces executes turns turns_from flow labels as_target walk walk_select target_sites standing digits
+unfolding read_expr read_select pieces executes turns turns_from flow labels as_target walk walk_select target_sites standing digits parts scopes_of signals_of places_of
 braced_told = refl

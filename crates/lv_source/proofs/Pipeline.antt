@@ -4,7 +4,7 @@ use Rattle.lv_source.specs.Meaning.{read_expr, read_select}
 use Rattle.lv_source.specs.Effect.{pieces, executes, turns, turns_from}
 use Rattle.lv_source.specs.Flow.{flow}
 use Rattle.lv_source.specs.Declarations.{labels}
-use Rattle.lv_source.specs.Parts.{as_target}
+use Rattle.lv_source.specs.Parts.{as_target, parts, scopes_of, signals_of}
 use Rattle.lv_source.specs.Sites.{walk, walk_select, target_sites}
 use Rattle.lv_source.specs.Standing.{standing}
 use Rattle.std.specs.Prelude.{◌≡◌, ℕ, List, [], ◌∷◌, ◌++◌, Option, Some, None, codes, refl}
@@ -17,6 +17,7 @@ use Rattle.lv_ast.specs.declared.item.Range.{Range}
 use Rattle.lv_source.specs.Parts.{Design, registers_of, inputs_of}
 use Rattle.lv_source.proofs.Build.{refused}
 use Rattle.lv_ast.proofs.Build.{id, name, bin, to, sized, bits, block, input, output, output_reg, assign, module_of, at_clock, reg, wire, wire_with, linked, clk}
+use Rattle.lv_source.specs.Legal.{places_of}
 
 abbrev byte : Option Range
 byte = Some (bits 7 0)
@@ -51,13 +52,13 @@ pipeline = record {
 }
 
 registers_are : registers_of pipeline ≡ codes "key" ∷ codes "u1.ov" ∷ codes "u1.ox" ∷ codes "u2.ov" ∷ codes "u2.ox" ∷ []
-unfolding read_expr read_select pieces executes turns turns_from flow labels as_target walk walk_select target_sites standing digits
+unfolding read_expr read_select pieces executes turns turns_from flow labels as_target walk walk_select target_sites standing digits parts scopes_of signals_of places_of
 registers_are = refl
 
 inputs_are : inputs_of pipeline ≡ codes "go" ∷ codes "d" ∷ []
-unfolding read_expr read_select pieces executes turns turns_from flow labels as_target walk walk_select target_sites standing digits
+unfolding read_expr read_select pieces executes turns turns_from flow labels as_target walk walk_select target_sites standing digits parts scopes_of signals_of places_of
 inputs_are = refl
 
 rules_hold : refused pipeline ≡ []
-unfolding read_expr read_select pieces executes turns turns_from flow labels as_target walk walk_select target_sites standing digits
+unfolding read_expr read_select pieces executes turns turns_from flow labels as_target walk walk_select target_sites standing digits parts scopes_of signals_of places_of
 rules_hold = refl

@@ -4,7 +4,7 @@ use Rattle.lv_source.specs.Meaning.{read_expr, read_select}
 use Rattle.lv_source.specs.Effect.{pieces, executes, turns, turns_from}
 use Rattle.lv_source.specs.Flow.{flow}
 use Rattle.lv_source.specs.Declarations.{labels}
-use Rattle.lv_source.specs.Parts.{as_target}
+use Rattle.lv_source.specs.Parts.{as_target, parts, scopes_of, signals_of}
 use Rattle.lv_source.specs.Sites.{walk, walk_select, target_sites}
 use Rattle.lv_source.specs.Standing.{standing}
 use Rattle.std.specs.Prelude.{◌≡◌, ℕ, true, false, List, [], ◌∷◌, map, None, codes, refl}
@@ -14,6 +14,7 @@ use Rattle.lv_source.specs.Parts.{Design, signals_of}
 use Rattle.lv_source.specs.PlainNames.{plain_module}
 use Rattle.lv_ast.proofs.Build.{id, module_of, wire}
 use Rattle.lv_source.proofs.Build.{design_t}
+use Rattle.lv_source.specs.Legal.{places_of}
 
 -- a wire of this name, beside an instance x+ with a wire q-
 abbrev beside : List ℕ → Design
@@ -22,7 +23,7 @@ beside n = design_t (
     module_of (codes "s") [] (wire (codes "q-") 36 None ∷ []) ∷ [])
 
 one_path : map (λ s. s.path) (signals_of (beside (codes "x+ .\\q-"))) ≡ codes "\\x+ .\\q- " ∷ codes "\\x+ .\\q- " ∷ []
-unfolding read_expr read_select pieces executes turns turns_from flow labels as_target walk walk_select target_sites standing digits
+unfolding read_expr read_select pieces executes turns turns_from flow labels as_target walk walk_select target_sites standing digits parts scopes_of signals_of places_of
 one_path = refl
 
 is_not_plain : map (λ n. list_all plain_module (beside n).source.modules) (codes "x+ .\\q-" ∷ codes "w" ∷ []) ≡ false ∷ true ∷ []

@@ -90,4 +90,5 @@ item_faithful source s (i.Instance kind settings insts) = each-flat FaithfulPart
 item_faithful source s _ = tt
 
 pub parts_faithful : (d : Design) → Each FaithfulPart (parts d)
+unfolding parts
 parts_faithful d = each-flat FaithfulPart (scope_parts d.source) (λ s. each-flat FaithfulPart (item_parts d.source s) (item_faithful d.source s) s.items) (scopes_of d)

@@ -4,7 +4,7 @@ use Rattle.lv_source.specs.Meaning.{read_expr, read_select}
 use Rattle.lv_source.specs.Effect.{pieces, executes, turns, turns_from}
 use Rattle.lv_source.specs.Flow.{flow}
 use Rattle.lv_source.specs.Declarations.{labels}
-use Rattle.lv_source.specs.Parts.{as_target}
+use Rattle.lv_source.specs.Parts.{as_target, parts, scopes_of, signals_of}
 use Rattle.lv_source.specs.Sites.{walk, walk_select, target_sites}
 use Rattle.lv_source.specs.Standing.{standing}
 use Rattle.std.specs.Prelude.{◌≡◌, ℕ, true, false, List, [], ◌∷◌, map, Some, None, codes, refl, ◌+◌}
@@ -19,7 +19,7 @@ use Rattle.lv_ast.specs.declared.item.Item.TheVariants as i
 use Rattle.lv_ast.specs.declared.item.Module.{Module}
 use Rattle.lv_ast.specs.declared.item.Conn.{Conn}
 use Rattle.lv_source.specs.Parts.{drives, Design, parts, registers_of}
-use Rattle.lv_source.specs.Legal.{Kind, Blocking, Latch, UnknownModule, UnknownName, Duplicate, NotConstant, ZeroDivisor, Recursion, Port, WrongKind, ClockUse, Nonblocking, TwoDrivers, Undriven, ReadFirst, Range}
+use Rattle.lv_source.specs.Legal.{Kind, Blocking, Latch, UnknownModule, UnknownName, Duplicate, NotConstant, ZeroDivisor, Recursion, Port, WrongKind, ClockUse, Nonblocking, TwoDrivers, Undriven, ReadFirst, Range, places_of}
 use Rattle.lv_source.specs.PartRules.{is_cycle}
 use Rattle.lv_ast.proofs.Build.{id, name, bin, un, cat, to, to_bits, bit, slice, chosen, plain, sized, bits, block, input, output, assign, module_of, clk, always_star, at_clock, reg, wire, loop_of, linked, case_of}
 use Rattle.lv_source.proofs.Build.{design_t, refused, told_at, is_empty}
@@ -108,7 +108,7 @@ held =
 held_at : map (λ r. told_at r.1 r.0) held ≡
     (20 ∷ []) ∷ (44 ∷ []) ∷ (46 ∷ []) ∷ (0 ∷ []) ∷ (0 ∷ 0 ∷ []) ∷ (0 ∷ 0 ∷ []) ∷ (36 ∷ []) ∷ (30 ∷ 50 ∷ []) ∷ (112 ∷ 112 ∷ 0 ∷ []) ∷ (40 ∷ 0 ∷ []) ∷ (0 ∷ []) ∷ (50 ∷ 0 ∷ []) ∷ (50 ∷ 0 ∷ []) ∷
     (40 ∷ 0 ∷ 50 ∷ 0 ∷ []) ∷ (40 ∷ []) ∷ (42 ∷ []) ∷ (42 ∷ []) ∷ []
-unfolding read_expr read_select pieces executes turns turns_from flow labels as_target walk walk_select target_sites standing digits
+unfolding read_expr read_select pieces executes turns turns_from flow labels as_target walk walk_select target_sites standing digits parts scopes_of signals_of places_of
 held_at = refl
 
 -- and here it doesn't
@@ -133,7 +133,7 @@ not_held =
     (ReadFirst, plain_t (reg_r ∷ always_star (block (set_r one_bit ∷ set_r (un o.Not (name (codes "r"))) ∷ [])) 42 ∷ [])) ∷ []
 
 not_held_at : list_all is_empty (map (λ r. told_at r.1 r.0) not_held) ≡ true
-unfolding read_expr read_select pieces executes turns turns_from flow labels as_target walk walk_select target_sites standing digits
+unfolding read_expr read_select pieces executes turns turns_from flow labels as_target walk walk_select target_sites standing digits parts scopes_of signals_of places_of
 not_held_at = refl
 
 -- ---- more cases of some kinds
@@ -155,7 +155,7 @@ more =
 
 more_at : map (λ r. told_at r.1 r.0) more ≡
     (0 ∷ []) ∷ (0 ∷ []) ∷ (0 ∷ 0 ∷ []) ∷ (113 ∷ 113 ∷ 0 ∷ []) ∷ (112 ∷ 112 ∷ 0 ∷ []) ∷ [] ∷ (35 ∷ 35 ∷ []) ∷ (0 ∷ 0 ∷ 40 ∷ 0 ∷ []) ∷ (0 ∷ 0 ∷ 112 ∷ 0 ∷ []) ∷ []
-unfolding read_expr read_select pieces executes turns turns_from flow labels as_target walk walk_select target_sites standing digits
+unfolding read_expr read_select pieces executes turns turns_from flow labels as_target walk walk_select target_sites standing digits parts scopes_of signals_of places_of
 more_at = refl
 
 -- ---- a circle, and none
@@ -165,11 +165,11 @@ in_order = plain_t (wire_of (codes "w") 1 ∷ assign (to_bits (codes "w") (bit (
     assign (to_bits (codes "w") (bit (plain 1) ∷ [])) (un o.Not (chosen (codes "w") (bit (plain 0) ∷ []))) 50 ∷ [])
 
 order_is_legal : refused in_order ≡ []
-unfolding read_expr read_select pieces executes turns turns_from flow labels as_target walk walk_select target_sites standing digits
+unfolding read_expr read_select pieces executes turns turns_from flow labels as_target walk walk_select target_sites standing digits parts scopes_of signals_of places_of
 order_is_legal = refl
 
 no_circle : is_cycle (parts in_order) (0 ∷ 1 ∷ []) ≡ false
-unfolding read_expr read_select pieces executes turns turns_from flow labels as_target walk walk_select target_sites standing digits
+unfolding read_expr read_select pieces executes turns turns_from flow labels as_target walk walk_select target_sites standing digits parts scopes_of signals_of places_of
 no_circle = refl
 
 -- ---- loop indices
@@ -191,14 +191,14 @@ divides start = block (b.Null ∷ loop_of (id (codes "k") 60) (plain start) (bin
 loops_at : map (λ s. refused (indexed s))
     (count_to 40 4 (codes "k") sets ∷ sets ∷ count_to 40 1 (codes "k") (count_to 60 1 (codes "k") sets) ∷ count_to 40 4 (codes "j") sets ∷ divides 0 ∷ divides 1 ∷ []) ≡
     [] ∷ ((UnknownName, 0) ∷ []) ∷ ((UnknownName, 60) ∷ []) ∷ ((UnknownName, 41) ∷ []) ∷ ((ZeroDivisor, 0) ∷ (ZeroDivisor, 0) ∷ []) ∷ [] ∷ []
-unfolding read_expr read_select pieces executes turns turns_from flow labels as_target walk walk_select target_sites standing digits
+unfolding read_expr read_select pieces executes turns turns_from flow labels as_target walk walk_select target_sites standing digits parts scopes_of signals_of places_of
 loops_at = refl
 
 -- a loop that has no turn writes nothing
 no_turn : registers_of (indexed (count_to 40 0 (codes "k") sets)) ≡ codes "r" ∷ []
-unfolding read_expr read_select pieces executes turns turns_from flow labels as_target walk walk_select target_sites standing digits
+unfolding read_expr read_select pieces executes turns turns_from flow labels as_target walk walk_select target_sites standing digits parts scopes_of signals_of places_of
 no_turn = refl
 
 nothing_driven : map drives (parts (indexed (count_to 40 0 (codes "k") sets))) ≡ [] ∷ []
-unfolding read_expr read_select pieces executes turns turns_from flow labels as_target walk walk_select target_sites standing digits
+unfolding read_expr read_select pieces executes turns turns_from flow labels as_target walk walk_select target_sites standing digits parts scopes_of signals_of places_of
 nothing_driven = refl

@@ -4,7 +4,7 @@ use Rattle.lv_source.specs.Meaning.{read_expr, read_select}
 use Rattle.lv_source.specs.Effect.{pieces, executes, turns, turns_from}
 use Rattle.lv_source.specs.Flow.{flow}
 use Rattle.lv_source.specs.Declarations.{labels}
-use Rattle.lv_source.specs.Parts.{as_target}
+use Rattle.lv_source.specs.Parts.{as_target, parts, scopes_of, signals_of}
 use Rattle.lv_source.specs.Sites.{walk, walk_select, target_sites}
 use Rattle.lv_source.specs.Standing.{standing}
 use Rattle.std.proofs.Common.{◌≡◌, ℕ, zero, suc, ◌+◌, ◌<◌, Bool, true, List, [], ◌∷◌, length, refl, ap, arith, nat_eq, sym, ◌∙◌}
@@ -18,6 +18,7 @@ use Rattle.lv_source.specs.Settled.{next_bit, IsSettled, Follows}
 use Rattle.lv_source.specs.Observe.{Contract, machine, observed}
 use Rattle.lv_ast.proofs.Build.{name}
 use Rattle.lv_source.proofs.DesignA.{design}
+use Rattle.lv_source.specs.Legal.{places_of}
 
 abbrev q : List ℕ
 q = codes "q"
@@ -49,7 +50,7 @@ abbrev two : ℕ → ℕ → Valuation
 two x y name = if bytes_eq name q then x else y
 
 table : (x y : ℕ) → x < 2 → y < 2 → next_bit design (two x y) q0 ≡ bit_xor x y
-unfolding read_expr read_select pieces executes turns turns_from flow labels as_target walk walk_select target_sites standing digits
+unfolding read_expr read_select pieces executes turns turns_from flow labels as_target walk walk_select target_sites standing digits parts scopes_of signals_of places_of
 table zero zero h k = refl
 table zero (suc zero) h k = refl
 table (suc zero) zero h k = refl
@@ -59,7 +60,7 @@ table zero (suc (suc y)) h k = absurd (omega arith)
 table (suc zero) (suc (suc y)) h k = absurd (omega arith)
 
 next_q : (v : Valuation) → IsSettled design v → next_bit design v q0 ≡ bit_xor (v q) (v d)
-unfolding read_expr read_select pieces executes turns turns_from flow labels as_target walk walk_select target_sites standing digits
+unfolding read_expr read_select pieces executes turns turns_from flow labels as_target walk walk_select target_sites standing digits parts scopes_of signals_of places_of
 next_q v s = table (v q) (v d) (s.fits q) (s.fits d)
 
 low : (x : ℕ) → x < 2 → x / 1 % 2 ≡ x
@@ -67,7 +68,7 @@ low x h = omega arith
 
 -- the register of a settled valuation that follows
 becomes : (v w : Valuation) → IsSettled design v → IsSettled design w → Follows design v w → w q ≡ bit_xor (v q) (v d)
-unfolding read_expr read_select pieces executes turns turns_from flow labels as_target walk walk_select target_sites standing digits
+unfolding read_expr read_select pieces executes turns turns_from flow labels as_target walk walk_select target_sites standing digits parts scopes_of signals_of places_of
 becomes v w s t f =
     sym (low (w q) (t.fits q)) ∙ All-head (λ b. bit_at w b ≡ next_bit design v b) q0 [] f ∙ next_q v s
 
@@ -75,36 +76,36 @@ abbrev both : List ℕ
 both = 0 ∷ 1 ∷ []
 
 all_hold : (l r : Valuation) (a : Bool) → l q ≡ r q → a ≡ true → AllHold m both l r a
-unfolding read_expr read_select pieces executes turns turns_from flow labels as_target walk walk_select target_sites standing digits
+unfolding read_expr read_select pieces executes turns turns_from flow labels as_target walk walk_select target_sites standing digits parts scopes_of signals_of places_of
 all_hold l r a same e =
     let P : ℕ → Type 0 = λ k. m.Holds k l r a in
     All-cons P 0 (1 ∷ []) same (All-cons P 1 [] e (All-nil P))
 
 equal : (l r : Valuation) (a : Bool) → AllHold m both l r a → l q ≡ r q
-unfolding read_expr read_select pieces executes turns turns_from flow labels as_target walk walk_select target_sites standing digits
+unfolding read_expr read_select pieces executes turns turns_from flow labels as_target walk walk_select target_sites standing digits parts scopes_of signals_of places_of
 equal l r a all = All-head (λ k. m.Holds k l r a) 0 (1 ∷ []) all
 
 aligned : (l r : Valuation) (a : Bool) → AllHold m both l r a → a ≡ true
-unfolding read_expr read_select pieces executes turns turns_from flow labels as_target walk walk_select target_sites standing digits
+unfolding read_expr read_select pieces executes turns turns_from flow labels as_target walk walk_select target_sites standing digits parts scopes_of signals_of places_of
 aligned l r a all = let P : ℕ → Type 0 = λ k. m.Holds k l r a in All-head P 1 [] (All-tail P 0 (1 ∷ []) all)
 
 seen : (v : Valuation) → v q < 2 → observed design (name q) v ≡ v q
-unfolding read_expr read_select pieces executes turns turns_from flow labels as_target walk walk_select target_sites standing digits
+unfolding read_expr read_select pieces executes turns turns_from flow labels as_target walk walk_select target_sites standing digits parts scopes_of signals_of places_of
 seen v h = let x : ℕ = v q in let e : x / 1 % 2 ≡ x = omega arith in omega arith
 
 same_length : (l r : Valuation) → l q ≡ r q → length (m.row l) ≡ length (m.row r)
-unfolding read_expr read_select pieces executes turns turns_from flow labels as_target walk walk_select target_sites standing digits
+unfolding read_expr read_select pieces executes turns turns_from flow labels as_target walk walk_select target_sites standing digits parts scopes_of signals_of places_of
 same_length l r e = ap (λ x. length (m.row (two x 0))) e
 
 numbers : AreCandidates m both
-unfolding read_expr read_select pieces executes turns turns_from flow labels as_target walk walk_select target_sites standing digits
+unfolding read_expr read_select pieces executes turns turns_from flow labels as_target walk walk_select target_sites standing digits parts scopes_of signals_of places_of
 numbers = record {
   rising = λ k below. elim k as (λ k. k + 1 < 2 → slice_index both k < slice_index both (k + 1)) [ zero ↦ λ h. omega arith | suc j ↦ λ h. absurd (omega arith) ] below;
   in_range = All-cons (λ k. k < 2) 0 (1 ∷ []) (omega arith) (All-cons (λ k. k < 2) 1 [] (omega arith) (All-nil (λ k. k < 2)));
 }
 
 pub inductive : IsInductive m 0 both
-unfolding read_expr read_select pieces executes turns turns_from flow labels as_target walk walk_select target_sites standing digits
+unfolding read_expr read_select pieces executes turns turns_from flow labels as_target walk walk_select target_sites standing digits parts scopes_of signals_of places_of
 inductive = record {
   numbers = numbers;
   base = λ l r h. all_hold l r true
@@ -120,5 +121,5 @@ inductive = record {
 }
 
 pub implies : Implies m 0 both
-unfolding read_expr read_select pieces executes turns turns_from flow labels as_target walk walk_select target_sites standing digits
+unfolding read_expr read_select pieces executes turns turns_from flow labels as_target walk walk_select target_sites standing digits parts scopes_of signals_of places_of
 implies = record { same = λ l ls r rs a w all. ap (λ x. m.attacker (two x 0)) (equal l r a all) }

@@ -4,7 +4,7 @@ use Rattle.lv_source.specs.Meaning.{read_expr, read_select}
 use Rattle.lv_source.specs.Effect.{pieces, executes, turns, turns_from}
 use Rattle.lv_source.specs.Flow.{flow}
 use Rattle.lv_source.specs.Declarations.{labels}
-use Rattle.lv_source.specs.Parts.{as_target}
+use Rattle.lv_source.specs.Parts.{as_target, parts, scopes_of, signals_of}
 use Rattle.lv_source.specs.Sites.{walk, walk_select, target_sites}
 use Rattle.lv_source.specs.Standing.{standing}
 use Rattle.std.proofs.Common.{◌≡◌, inl, inr, ℕ, zero, suc, ◌<◌, ◌^◌, true, false, ◌||◌, List, [], ◌∷◌, arith, ap, ◌∙◌, sym, Some}
@@ -20,6 +20,7 @@ use Rattle.lv_source.proofs.Facts.{some_same}
 use Rattle.lv_source.proofs.Exists.{exists}
 use Rattle.lv_source.proofs.DesignA.{design}
 use Rattle.lv_source.proofs.LegalA.{design_is_legal}
+use Rattle.lv_source.specs.Legal.{places_of}
 
 -- no name is both
 abbrev first_or : ℕ → List ℕ → ℕ
@@ -40,7 +41,7 @@ is_in x y name e h = ap (λ (z : Declared). list_any (bytes_eq name) (cells z)) 
 
 apart : (i j : ℕ) (x y : Declared) (name : Name) → slice_get (signals_of design) i ≡ Some x → slice_get (signals_of design) j ≡ Some y →
     list_any (bytes_eq name) (cells x) ≡ true → list_any (bytes_eq name) (cells y) ≡ true → x ≡ y
-unfolding read_expr read_select pieces executes turns turns_from flow labels as_target walk walk_select target_sites standing digits
+unfolding read_expr read_select pieces executes turns turns_from flow labels as_target walk walk_select target_sites standing digits parts scopes_of signals_of places_of
 apart zero zero x y name e f h k = sym (some_same _ x e) ∙ some_same _ y f
 apart zero (suc zero) x y name e f h k = absurd (unlike (one_name (codes "d") (codes "q") name (is_in _ x name e h) (is_in _ y name f k)))
 apart (suc zero) zero x y name e f h k = absurd (unlike (one_name (codes "d") (codes "q") name (is_in _ y name f k) (is_in _ x name e h)))
@@ -50,7 +51,7 @@ apart zero (suc (suc j)) x y name e f h k = cc
 apart (suc zero) (suc (suc j)) x y name e f h k = cc
 
 within : (k : ℕ) (p : Part) (b : Bit) → slice_get (parts design) k ≡ Some p → is_clocked p ≡ false → has_bit (drives p) b ≡ true → b.place < width_at design b.name
-unfolding read_expr read_select pieces executes turns turns_from flow labels as_target walk walk_select target_sites standing digits
+unfolding read_expr read_select pieces executes turns turns_from flow labels as_target walk walk_select target_sites standing digits parts scopes_of signals_of places_of
 within zero p b e c h = absurd (let t : is_clocked p ≡ true = ap is_clocked (sym (some_same _ p e)) in cc)
 within (suc k) p b e c h = cc
 

@@ -15,7 +15,7 @@ use Rattle.lv_ast.specs.Names.{Name, alone, spelled, below}
 use Rattle.lv_source.specs.Names.{Names, Declared, Sort, Other, known, with_name, is_signal_sort}
 use Rattle.lv_source.specs.Names.{Index as Index_sort}
 use Rattle.lv_source.specs.Declarations.{Thing, Direction, Wire, Reg, Parameter, Index, Instance, Label, Declaration, of_item, of_items, of_module, module_items, of_params, of_ports, port_names, declared_as}
-use Rattle.lv_source.specs.Scopes.{Scope, Override, with_parameters, overridden, override_of, signal, other, place_among, stands_for, scope_names, sort_of, is_among, is_parameter, module_scope, turn_scope, no_names, module_named, overrides, clock_by, links, instance_scope, instance_scopes, is_one_bit_input, names_at, children, children_by, counted_from, scopes_within}
+use Rattle.lv_source.specs.Scopes.{Scope, Override, with_parameters, overridden, override_of, signal, other, stands_for, scope_names, sort_of, is_among, is_parameter, module_scope, turn_scope, no_names, module_named, overrides, clock_by, links, instance_scope, instance_scopes, is_one_bit_input, children, children_by, counted_from, scopes_within}
 use Rattle.lv_source.specs.Parts.{numbered_from, stands_here, put_by_place, by_place, scope_signals, Design, scopes_of, scopes_from, signals_of, depth, top_scope}
 use Rattle.lv_source.specs.PlainNames.{has_space, is_plain, plain_item, plain_items, plain_module, HasPlainNames, DrivesSignals}
 use Rattle.lv_source.specs.Settled.{HasApartSignals}
@@ -26,7 +26,7 @@ use Rattle.lv_source.specs.ScopeRules.{duplicates}
 use Rattle.lv_source.proofs.Trees.{in-from, IsTold, HasCell, tree_apart}
 use Rattle.lv_source.proofs.Facts.{some_same}
 use Rattle.lv_source.proofs.FaultLaws.{append-right, scopes_clean}
-use Rattle.lv_source.specs.Legal.{IsLegal, Duplicate, modules_again}
+use Rattle.lv_source.specs.Legal.{IsLegal, Duplicate, modules_again, places_of}
 use Rattle.lv_source.specs.Effect.{with_index, turns}
 use Rattle.lv_ast.specs.declared.item.Conn.{Conn}
 use Rattle.lv_ast.specs.declared.item.Inst.{Inst}
@@ -46,18 +46,18 @@ pub record IsShaped (s : Scope) : Type 0 where
 
 -- ---- own signals
 
-put_if : (b : Bool) (x d e : Declared) (es : List Declared) → In x (if b then d ∷ e ∷ es else e ∷ put_by_place d es) → (In x (put_by_place d es) → (d ≡ x) ⊎ In x es) → (d ≡ x) ⊎ In x (e ∷ es)
+put_if : (b : Bool) (x d e : ℕ × Declared) (es : List (ℕ × Declared)) → In x (if b then d ∷ e ∷ es else e ∷ put_by_place d es) → (In x (put_by_place d es) → (d ≡ x) ⊎ In x es) → (d ≡ x) ⊎ In x (e ∷ es)
 put_if true x d e es (inl k) f = inl k
 put_if true x d e es (inr k) f = inr k
 put_if false x d e es (inl k) f = inr (inl k)
 put_if false x d e es (inr k) f = elim (f k) [ inl j ↦ inl j | inr j ↦ inr (inr j) ]
 
-in_put : (x d : Declared) (ds : List Declared) → In x (put_by_place d ds) → (d ≡ x) ⊎ In x ds
+in_put : (x d : ℕ × Declared) (ds : List (ℕ × Declared)) → In x (put_by_place d ds) → (d ≡ x) ⊎ In x ds
 in_put x d [] (inl e) = inl e
 in_put x d [] (inr h) = absurd h
-in_put x d (e ∷ es) h = put_if (nat_le d.place e.place) x d e es h (in_put x d es)
+in_put x d (e ∷ es) h = put_if (nat_le d.0 e.0) x d e es h (in_put x d es)
 
-in_sorted : (x : Declared) (ds : List Declared) → In x (by_place ds) → In x ds
+in_sorted : (x : ℕ × Declared) (ds : List (ℕ × Declared)) → In x (by_place ds) → In x ds
 in_sorted x [] h = absurd h
 in_sorted x (d ∷ ds) h = elim (in_put x d (by_place ds) h) [ inl e ↦ inl e | inr k ↦ inr (in_sorted x ds k) ]
 
@@ -66,7 +66,7 @@ in_numbered kx [] j h = absurd h
 in_numbered kx (x ∷ xs) j (inl e) = inl (ap (λ (z : ℕ × Declaration). z.1) e)
 in_numbered kx (x ∷ xs) j (inr h) = inr (in_numbered kx xs (suc j) h)
 
-in_if : (b : Bool) (d x : Declared) → In x (if b then d ∷ [] else []) → (b ≡ true) × (d ≡ x)
+in_if : (b : Bool) (d x : ℕ × Declared) → In x (if b then d ∷ [] else []) → (b ≡ true) × (d ≡ x)
 in_if true d x (inl e) = (refl, e)
 in_if true d x (inr e) = absurd e
 in_if false d x h = absurd h
@@ -80,45 +80,45 @@ NotSignal d = is_signal_sort (known d).sort ≡ false
 clash : (b : Bool) → b ≡ true → b ≡ false → ⊥
 clash b h k = cc
 
-stands_thing : (names : Names) (path : Name) (p : Path) (n : Ident) (sort : Sort) (place : ℕ) (t : Thing) → (is_param t ≡ true → NotSignal (names p)) →
+stands_thing : (names : Names) (path : Name) (p : Path) (n : Ident) (sort : Sort) (t : Thing) → (is_param t ≡ true → NotSignal (names p)) →
     is_signal_sort (known (elim t as (λ _. Option Declared) [
-      | Direction o w signed range ↦ Some (signal names path n.name sort place signed range None)
-      | Wire signed range ↦ Some (signal names path n.name sort place signed range None)
-      | Reg signed range array ↦ Some (signal names path n.name sort place signed range array)
+      | Direction o w signed range ↦ Some (signal names path n.name sort signed range None)
+      | Wire signed range ↦ Some (signal names path n.name sort signed range None)
+      | Reg signed range array ↦ Some (signal names path n.name sort signed range array)
       | Parameter l s r v ↦ names p
-      | Index g ↦ Some (other (Index_sort g) n)
-      | Instance ↦ Some (other Other n)
-      | Label ↦ Some (other Other n)
+      | Index g ↦ Some (other (Index_sort g))
+      | Instance ↦ Some (other Other)
+      | Label ↦ Some (other Other)
     ])).sort ≡ true →
     (known (elim t as (λ _. Option Declared) [
-      | Direction o w signed range ↦ Some (signal names path n.name sort place signed range None)
-      | Wire signed range ↦ Some (signal names path n.name sort place signed range None)
-      | Reg signed range array ↦ Some (signal names path n.name sort place signed range array)
+      | Direction o w signed range ↦ Some (signal names path n.name sort signed range None)
+      | Wire signed range ↦ Some (signal names path n.name sort signed range None)
+      | Reg signed range array ↦ Some (signal names path n.name sort signed range array)
       | Parameter l s r v ↦ names p
-      | Index g ↦ Some (other (Index_sort g) n)
-      | Instance ↦ Some (other Other n)
-      | Label ↦ Some (other Other n)
+      | Index g ↦ Some (other (Index_sort g))
+      | Instance ↦ Some (other Other)
+      | Label ↦ Some (other Other)
     ])).path ≡ below path (spelled n.name)
-stands_thing names path p n sort place (Direction o w s r) f h = refl
-stands_thing names path p n sort place (Wire s r) f h = refl
-stands_thing names path p n sort place (Reg s r b) f h = refl
-stands_thing names path p n sort place (Parameter l s r v) f h = absurd (clash _ h (f refl))
-stands_thing names path p n sort place (Index g) f h = cc
-stands_thing names path p n sort place Instance f h = cc
-stands_thing names path p n sort place Label f h = cc
+stands_thing names path p n sort (Direction o w s r) f h = refl
+stands_thing names path p n sort (Wire s r) f h = refl
+stands_thing names path p n sort (Reg s r b) f h = refl
+stands_thing names path p n sort (Parameter l s r v) f h = absurd (clash _ h (f refl))
+stands_thing names path p n sort (Index g) f h = cc
+stands_thing names path p n sort Instance f h = cc
+stands_thing names path p n sort Label f h = cc
 
 stands_path : (names : Names) (path m : Name) (top clock : Bool) (xs : List Declaration) → ((d : Declaration) → In d xs → d.name.name ≡ m) → ((d : Declaration) → In d xs → is_parameter d ≡ true → NotSignal (names (alone m))) →
     (d : Declaration) → In d xs → is_signal_sort (known (stands_for names path top clock (alone m) xs)).sort ≡ true → (known (stands_for names path top clock (alone m) xs)).path ≡ below path (spelled m)
 stands_path names path m top clock [] n f d i h = absurd i
 stands_path names path m top clock (x ∷ xs) n f d i h =
-    stands_thing names path (alone m) x.name (sort_of top clock (x ∷ xs)) (place_among x.name.place (x ∷ xs)) x.thing (f x (inl refl)) h ∙ ap (λ k. below path (spelled k)) (n x (inl refl))
+    stands_thing names path (alone m) x.name (sort_of top clock (x ∷ xs)) x.thing (f x (inl refl)) h ∙ ap (λ k. below path (spelled k)) (n x (inl refl))
 
 in_cond : (b : Bool) (x d : Declaration) (xs : List Declaration) → In d (cond b (x ∷ xs) xs) → ((b ≡ true) × (x ≡ d)) ⊎ In d xs
 in_cond true x d xs (inl e) = inl (refl, e)
 in_cond true x d xs (inr h) = inr h
 in_cond false x d xs h = inr h
 
-filter_in : (n : Name) (ds : List Declaration) (d : Declaration) → In d (declared_as n ds) → In d ds × (d.name.name ≡ n)
+pub filter_in : (n : Name) (ds : List Declaration) (d : Declaration) → In d (declared_as n ds) → In d ds × (d.name.name ≡ n)
 filter_in n [] d h = absurd h
 filter_in n (x ∷ xs) d h = elim (in_cond (bytes_eq x.name.name n) x d (declared_as n xs) h) [
   | inl e ↦ (inl e.1, ap (λ (z : Declaration). z.name.name) (sym e.1) ∙ same_name x.name.name n e.0)
@@ -127,11 +127,14 @@ filter_in n (x ∷ xs) d h = elim (in_cond (bytes_eq x.name.name n) x d (declare
 
 pub own_signals : (s : Scope) → IsShaped s → (x : Declared) → In x (scope_signals s) → (m : Name) × IsPlain m × (x ≡ known (s.names (alone m))) × (x.path ≡ below s.path (spelled m))
 own_signals s h x i =
-    let at : (kx : ℕ × Declaration) × In kx (numbered_from 0 s.declarations) × In x (stands_here s kx) = in-from (stands_here s) x (numbered_from 0 s.declarations) (in_sorted x _ i) in
+    let sorted : List (ℕ × Declared) = by_place (flat_map (stands_here s) (numbered_from 0 s.declarations)) in
+    let px : (p : ℕ × Declared) × In p sorted × (p.1 ≡ x) = mapped-from (λ (p : ℕ × Declared). p.1) x sorted i in
+    let at : (kx : ℕ × Declaration) × In kx (numbered_from 0 s.declarations) × In px.0 (stands_here s kx) = in-from (stands_here s) px.0 (numbered_from 0 s.declarations) (in_sorted px.0 _ px.1) in
     let d : Declaration = at.0.1 in
     let m : Name = d.name.name in
     let among : In d s.declarations = in_numbered at.0 s.declarations 0 at.1 in
-    let is : (_ ≡ true) × (known (s.names (alone m)) ≡ x) = in_if _ (known (s.names (alone m))) x at.2 in
+    let here : (_ ≡ true) × ((d.name.place, known (s.names (alone m))) ≡ px.0) = in_if _ (d.name.place, known (s.names (alone m))) px.0 at.2 in
+    let is : (_ ≡ true) × (known (s.names (alone m)) ≡ x) = (here.0, ap (λ (p : ℕ × Declared). p.1) here.1 ∙ px.2) in
     let sort : is_signal_sort (known (s.names (alone m))).sort ≡ true = and-left (is_signal_sort (known (s.names (alone m))).sort) _ is.0 in
     let names : s.names (alone m) ≡ stands_for h.constants s.path h.top (is_among h.clocks m) (alone m) (declared_as m s.declarations) = ap (λ (ns : Names). ns (alone m)) h.names in
     let path : (known (stands_for h.constants s.path h.top (is_among h.clocks m) (alone m) (declared_as m s.declarations))).path ≡ below s.path (spelled m) =
@@ -154,7 +157,7 @@ told source s h e =
 
 -- ---- parameters
 
-over_fixed : (here : Names) (n : Ident) (signed : Bool) (range : Option Range) (value : Expr) (o : Option Override) → is_signal_sort (overridden here n signed range value o).sort ≡ false
+pub over_fixed : (here : Names) (n : Ident) (signed : Bool) (range : Option Range) (value : Expr) (o : Option Override) → is_signal_sort (overridden here n signed range value o).sort ≡ false
 over_fixed here n signed None value None = refl
 over_fixed here n signed (Some r) value None = refl
 over_fixed here n signed None value (Some o) = refl
@@ -286,13 +289,13 @@ module_shaped path top around os clocks m h =
       whole = refl;
     }
 
-pub turn_shaped : (s : Scope) (names : Names) (index label : Ident) (items : List Item) (v : ℕ) → ((x : Item) → In x items → plain_item x ≡ true) → IsShaped (turn_scope s names index label items v)
-turn_shaped s names index label items v h = record {
-  constants = with_parameters [] (with_index names index.name index.place v) (of_items items);
+pub turn_shaped : (s : Scope) (k : ℕ) (index label : Ident) (items : List Item) (v : ℕ) → ((x : Item) → In x items → plain_item x ≡ true) → IsShaped (turn_scope s k index label items v)
+turn_shaped s k index label items v h = record {
+  constants = with_parameters [] (with_index s.names index.name v) (of_items items);
   top = false;
   clocks = [];
   names = refl;
-  fixed = λ n d i e p. params_fixed [] (with_index names index.name index.place v) (of_items items) n d i e p;
+  fixed = λ n d i e p. params_fixed [] (with_index s.names index.name v) (of_items items) n d i e p;
   plain = items_plain items h;
   items = h;
   front = [];
@@ -303,7 +306,7 @@ found_if : (b : Bool) (x : Module) (xs : List Module) (m : Module) (r : Option M
 found_if true x xs m r h f = inl (some_same x m h)
 found_if false x xs m r h f = inr (f h)
 
-found_in : (q : Module → Bool) (ms : List Module) (m : Module) → find q ms ≡ Some m → In m ms
+pub found_in : (q : Module → Bool) (ms : List Module) (m : Module) → find q ms ≡ Some m → In m ms
 found_in q [] m h = cc
 found_in q (x ∷ xs) m h = found_if (q x) x xs m (find q xs) h (found_in q xs m)
 
@@ -322,9 +325,9 @@ module _ (source : Source) (plain : HasPlainNames source) (s : Scope) where
       (let r : (n : Inst) × In n insts × In c (instance_scopes s settings n (module_named source kind.name)) = in-from (λ n. instance_scopes s settings n (module_named source kind.name)) c insts h in
       inst_shaped settings r.0 (module_named source kind.name) (named_plain kind.name) c r.2)
   child_shaped k (i.Loop' index start test again next label n items) c p h =
-      (let r : (v : ℕ) × In v (turns s.names index.name index.place start test next) × (turn_scope s (names_at s k) index label (spread_all items) v ≡ c) =
-      mapped-from (turn_scope s (names_at s k) index label (spread_all items)) c (turns s.names index.name index.place start test next) h in
-      subst IsShaped r.2 (turn_shaped s (names_at s k) index label (spread_all items) r.0 (λ y j. plain_all items y (and-right (not (has_space label.name)) (plain_items items) p) j)))
+      (let r : (v : ℕ) × In v (turns s.names index.name start test next) × (turn_scope s k index label (spread_all items) v ≡ c) =
+      mapped-from (turn_scope s k index label (spread_all items)) c (turns s.names index.name start test next) h in
+      subst IsShaped r.2 (turn_shaped s k index label (spread_all items) r.0 (λ y j. plain_all items y (and-right (not (has_space label.name)) (plain_items items) p) j)))
   child_shaped k (i.Port a) c p h = absurd h
   child_shaped k (i.Wire signed range names) c p h = absurd h
   child_shaped k (i.Reg signed range names) c p h = absurd h
@@ -369,6 +372,7 @@ from_apart d plain (Some m) f e x y name i j a b =
 -- no two signals of a legal source with plain names have a cell of one name
 pub signals_apart : (d : Design) → IsLegal d → HasPlainNames d.source → (i j : ℕ) (x y : Declared) (name : Name) → slice_get (signals_of d) i ≡ Some x → slice_get (signals_of d) j ≡ Some y →
     HasCell x name → HasCell y name → x ≡ y
+unfolding places_of signals_of scopes_of
 signals_apart d legal plain i j x y name e f a b =
     from_apart d plain (module_named d.source d.top)
     (λ m k. all_in plain_module d.source.modules m plain.plain (found_in (λ m. bytes_eq m.name.name d.top) d.source.modules m k))

@@ -466,7 +466,7 @@ mutual
   sums_by (b.Case' wild x n arms) = λ names.
       case_sums wild (is_extended x) (read_expr names x) _ _ (arms_sum names _ _ (row_sums arms)) (some_path names (b.Case' wild x n arms))
   sums_by (b.Loop' index start test again next n s) =
-      λ names. loop_sums _ _ (one_sums s) (with_index names index.name index.place) (turns names index.name index.place start test next)
+      λ names. loop_sums _ _ (one_sums s) (with_index names index.name) (turns names index.name start test next)
   sums_by (b.Now target x place) = λ names. write_sums true (pieces names target) (read_expr names x) place
   sums_by (b.Later target x place) = λ names. write_sums false (pieces names target) (read_expr names x) place
 

@@ -164,23 +164,23 @@ case_effect wild x arms names s = case_of wild (read_expr names x) (map (read_ar
 -- ---- loops
 
 -- the index of a loop, at a turn
-abbrev pub with_index : Names → Name → ℕ → ℕ → Names
-with_index names index place value =
-    with_name names index (Some (record { path = index; bounds = record { left = 31; right = 0 }; ranged = true; signed = true; array = None; sort = Constant value; place = place; early = true }))
+abbrev pub with_index : Names → Name → ℕ → Names
+with_index names index value =
+    with_name names index (Some (record { path = index; bounds = record { left = 31; right = 0 }; ranged = true; signed = true; array = None; sort = Constant value }))
 
 -- a number as a loop index keeps it
 abbrev pub index_value : Names → Expr → ℕ
 index_value names x = assigned nowhere 32 (meaning names x)
 
 -- the values of the index, turn by turn, while the test isn't 0
-unfoldable pub turns_from : ℕ → Names → Name → ℕ → Expr → Expr → ℕ → List ℕ
-turns_from zero names index place test next value = []
-turns_from (suc n) names index place test next value =
-    let here : Names = with_index names index place value in
-    elim (constant_value here test == 0) [ true ↦ [] | false ↦ value ∷ turns_from n names index place test next (index_value here next) ]
+unfoldable pub turns_from : ℕ → Names → Name → Expr → Expr → ℕ → List ℕ
+turns_from zero names index test next value = []
+turns_from (suc n) names index test next value =
+    let here : Names = with_index names index value in
+    elim (constant_value here test == 0) [ true ↦ [] | false ↦ value ∷ turns_from n names index test next (index_value here next) ]
 
-unfoldable pub turns : Names → Name → ℕ → Expr → Expr → Expr → List ℕ
-turns names index place start test next = turns_from 1000001 names index place test next (index_value names start)
+unfoldable pub turns : Names → Name → Expr → Expr → Expr → List ℕ
+turns names index start test next = turns_from 1000001 names index test next (index_value names start)
 
 -- ---- statements, over what is read of their expressions
 
@@ -222,7 +222,7 @@ effect_step (Stmt-F.Block name body) names s = in_order body names s
 effect_step (Stmt-F.If x then_ else_) names s = if_of (read_expr names x) (then_ names) (otherwise else_ names) s
 effect_step (Stmt-F.Case wild x arms) names s = case_effect wild x arms names s
 effect_step (Stmt-F.Loop index start test again next body) names s =
-    each_turn (with_index names index.name index.place) body (turns names index.name index.place start test next) s
+    each_turn (with_index names index.name) body (turns names index.name start test next) s
 effect_step (Stmt-F.Now target x place) names s = now_of (pieces names target) (read_expr names x) s
 effect_step (Stmt-F.Later target x place) names s = later_of (pieces names target) (read_expr names x) s
 

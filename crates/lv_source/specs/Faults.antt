@@ -3,19 +3,19 @@ use Rattle.std.specs.Prelude.{ℕ, List, [], ◌++◌, flat_map}
 use Rattle.lv_ast.specs.declared.item.Source.{Source}
 use Rattle.lv_source.specs.Scopes.{Scope}
 use Rattle.lv_source.specs.Parts.{Design, Part, At}
-use Rattle.lv_source.specs.Sites.{Site}
+use Rattle.lv_source.specs.Sites.{Spot}
 use Rattle.lv_source.specs.NodeRules.{unknown_name, not_constant, zero_divisor, out_of_range, clock_use}
 use Rattle.lv_source.specs.ScopeRules as r
 use Rattle.lv_source.specs.PartRules as p
 use Rattle.lv_source.specs.Legal.{Kind, UnknownModule, UnknownName, Duplicate, NotConstant, ZeroDivisor, Range, Recursion, Port, WrongKind, ClockUse, Blocking, Nonblocking, TwoDrivers, Undriven, Latch, ReadFirst, top_module, modules_again, top_clock, in_scopes, at_parts}
 
 -- of a node of an expression
-abbrev pub site_faults : Kind → Site → List ℕ
-site_faults UnknownName x = unknown_name x
+abbrev pub site_faults : Kind → Spot → List ℕ
+site_faults UnknownName x = unknown_name x.site
 site_faults NotConstant x = not_constant x
-site_faults ZeroDivisor x = zero_divisor x
-site_faults Range x = out_of_range x
-site_faults ClockUse x = clock_use x
+site_faults ZeroDivisor x = zero_divisor x.site
+site_faults Range x = out_of_range x.site
+site_faults ClockUse x = clock_use x.site
 site_faults _ x = []
 
 -- of a scope, but for those of its nodes
@@ -23,13 +23,13 @@ abbrev pub other_faults : Source → Kind → Scope → List ℕ
 other_faults source UnknownModule s = r.unknown_modules source s
 other_faults source UnknownName s = flat_map r.unknown_in_form (r.scope_standing s) ++ r.at_items (r.unknown_in_item source) s
 other_faults source Duplicate s = r.duplicates s
-other_faults source Range s = r.at_declarations r.range_fault s ++ flat_map r.range_in_form (r.scope_standing s) ++ r.at_items r.range_in_item s
+other_faults source Range s = flat_map (r.range_fault s.names) s.declarations ++ flat_map r.range_in_form (r.scope_standing s) ++ r.at_items r.range_in_item s
 other_faults source Recursion s = r.recursions source s
 other_faults source Port s = r.ports source s
 other_faults source _ s = []
 
 abbrev pub scope_faults : Source → Kind → Scope → List ℕ
-scope_faults source kind s = flat_map (site_faults kind) (r.scope_sites source s) ++ other_faults source kind s
+scope_faults source kind s = flat_map (site_faults kind) (r.scope_spots source s) ++ other_faults source kind s
 
 -- of the design as a whole
 abbrev pub design_faults : Design → Kind → List At

@@ -123,7 +123,7 @@ flow_step (Stmt-F.Block name body) names = all_flows (map (λ f. f names) body)
 flow_step (Stmt-F.If x then_ else_) names = if_flow (read_expr names x) (then_ names) (flow_or else_ names)
 flow_step (Stmt-F.Case wild x arms) names = case_flow wild x arms names
 flow_step (Stmt-F.Loop index start test again next body) names =
-    all_flows (map (λ k. body (with_index names index.name index.place k)) (turns names index.name index.place start test next))
+    all_flows (map (λ k. body (with_index names index.name k)) (turns names index.name start test next))
 flow_step (Stmt-F.Now target x place) names = writes true names target x place
 flow_step (Stmt-F.Later target x place) names = writes false names target x place
 

@@ -106,7 +106,7 @@ abbrev pub read_first : Design → List At
 read_first d = at_parts d (λ ps k q. p.read_first q)
 
 -- the paths and places of a kind
-abbrev pub places_of : Design → Kind → List At
+unfoldable pub places_of : Design → Kind → List At
 places_of d UnknownModule = unknown_modules d
 places_of d UnknownName = unknown_names d
 places_of d Duplicate = duplicates d

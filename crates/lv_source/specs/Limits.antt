@@ -77,9 +77,9 @@ size_step (Stmt-F.If x a b) names = sum_sizes (nodes_alone (suc (expr_nodes x)) 
 size_step (Stmt-F.Case wild x arms) names =
     sum_sizes (nodes_alone (suc (expr_nodes x)) ∷ map (λ a. nodes_alone (sum (map expr_nodes a.labels))) arms ++ map (λ a. a.body names) arms)
 size_step (Stmt-F.Loop index start test again next body) names =
-    let ks : List ℕ = turns names index.name index.place start test next in
+    let ks : List ℕ = turns names index.name start test next in
     sum_sizes (record { turns = length ks; nodes = suc (expr_nodes start + expr_nodes test + expr_nodes next) } ∷
-    map (λ k. body (with_index names index.name index.place k)) ks)
+    map (λ k. body (with_index names index.name k)) ks)
 size_step (Stmt-F.Now target x place) names = nodes_alone (suc (target_nodes target + expr_nodes x))
 size_step (Stmt-F.Later target x place) names = nodes_alone (suc (target_nodes target + expr_nodes x))
 
@@ -116,7 +116,7 @@ item_size s (i.Assign list) = nodes_alone (sum (map (λ a. target_nodes a.target
 item_size s (i.Always watch stmt place) = stmt_size s.names stmt
 item_size s (i.Instance kind settings insts) = nodes_alone (conn_nodes settings + sum (map (λ n. conn_nodes n.conns) insts))
 item_size s (i.Loop' index start test again next label n items) =
-    record { turns = length (turns s.names index.name index.place start test next); nodes = expr_nodes start + expr_nodes test + expr_nodes next }
+    record { turns = length (turns s.names index.name start test next); nodes = expr_nodes start + expr_nodes test + expr_nodes next }
 item_size s _ = nodes_alone 0
 
 abbrev pub scope_size : Scope → Size

@@ -39,20 +39,22 @@ pub record Declared : Type 0 where
   pub signed : Bool
   pub array : Option Bounds
   pub sort : Sort
-  pub place : ℕ
-  -- a constant that is declared before the place where names are looked up
-  pub early : Bool
 
 -- what each name stands for
 abbrev pub Names : Type 0
 Names = Path → Option Declared
+
+-- the names at a place, and which constants are declared before it
+pub record Here : Type 0 where
+  pub names : Names
+  pub early : Path → Bool
 
 -- a value for each path
 abbrev pub Valuation : Type 0
 Valuation = Name → ℕ
 
 abbrev pub no_declaration : Declared
-no_declaration = record { path = []; bounds = record { left = 0; right = 0 }; ranged = false; signed = false; array = None; sort = Other; place = 0; early = false }
+no_declaration = record { path = []; bounds = record { left = 0; right = 0 }; ranged = false; signed = false; array = None; sort = Other }
 
 abbrev pub width_of : Declared → ℕ
 width_of d = size d.bounds
@@ -86,3 +88,7 @@ is_input_sort _ = false
 -- one more name
 abbrev pub with_name : Names → Name → Option Declared → Names
 with_name names name d p = if has_no_steps p && bytes_eq p.name name then d else names p
+
+-- one more constant that is declared before
+abbrev pub with_early : (Path → Bool) → Name → Path → Bool
+with_early early name p = if has_no_steps p && bytes_eq p.name name then true else early p

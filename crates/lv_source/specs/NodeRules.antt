@@ -6,7 +6,7 @@ use Rattle.lv_ast.specs.declared.expr.Expr.TheOpen.{Expr-F, Select-F}
 use Rattle.lv_source.specs.Names.{Sort, Index, Other, Declared, Bounds, known, is_constant_sort, is_clock_sort}
 use Rattle.lv_source.specs.Values.{own_value, number_of, nowhere}
 use Rattle.lv_source.specs.Places.{falls, count_of, bit_selects}
-use Rattle.lv_source.specs.Sites.{Shown, Step, Role, Value, Joined, Written, Driven, DrivenJoined, Site, first_of, first_place}
+use Rattle.lv_source.specs.Sites.{Shown, Step, Role, Value, Joined, Written, Driven, DrivenJoined, Site, Spot, first_of, first_place}
 
 -- ---- numbers
 
@@ -63,9 +63,9 @@ unknown_name s = elim s.node [ Expr-F.Name path ss ↦ if is_name_fault s.role (
 -- ---- NotConstant: a constant position reads something else, or a division reads a signal
 
 -- a constant that is declared before
-abbrev pub is_early : Option Declared → Bool
-is_early None = false
-is_early (Some d) = is_constant_sort d.sort && d.early
+abbrev pub is_early : Bool → Option Declared → Bool
+is_early early None = false
+is_early early (Some d) = is_constant_sort d.sort && early
 
 -- a name that can't be read is an unknown one
 abbrev pub is_unreadable : Option Declared → Bool
@@ -73,16 +73,16 @@ is_unreadable None = true
 is_unreadable (Some d) = not (can_be_read d.sort)
 
 -- told at the name, or where the constant expression begins
-abbrev pub unfixed_name : Option ℕ → Option Declared → ℕ → List ℕ
-unfixed_name None d place = []
-unfixed_name (Some first) d place = if is_early d || is_unreadable d then [] else place ∷ first ∷ []
+abbrev pub unfixed_name : Option ℕ → Bool → Option Declared → ℕ → List ℕ
+unfixed_name None early d place = []
+unfixed_name (Some first) early d place = if is_early early d || is_unreadable d then [] else place ∷ first ∷ []
 
 abbrev pub unfixed_division : Shown → Shown → List ℕ
 unfixed_division a b = if a.reading.constant && b.reading.constant then [] else first_of (a.places ++ b.places) ∷ []
 
-abbrev pub not_constant : Site → List ℕ
-not_constant s = elim s.node [
-  | Expr-F.Name path ss ↦ unfixed_name s.fixed (s.names path) path.place
+abbrev pub not_constant : Spot → List ℕ
+not_constant x = elim x.site.node [
+  | Expr-F.Name path ss ↦ unfixed_name x.site.fixed (x.early path) (x.site.names path) path.place
   | Expr-F.Div a b ↦ unfixed_division a b
   | Expr-F.Rem a b ↦ unfixed_division a b
   | _ ↦ []

@@ -5,11 +5,11 @@ use Rattle.lv_model.specs.Machine.{Machine}
 use Rattle.lv_model.specs.Design.{Observers, Candidate, Eq, When, Each, Aligned, machine_of}
 use Rattle.lv_model.specs.Design.{Design as ModelDesign}
 use Rattle.lv_ast.specs.Names.{path_text}
-use Rattle.lv_source.specs.Names.{Names, Declared, Valuation}
+use Rattle.lv_source.specs.Names.{Names, Here, Declared, Valuation}
 use Rattle.lv_source.specs.Places.{Bit, has_bit, whole}
 use Rattle.lv_source.specs.Meaning.{read_expr, own}
 use Rattle.lv_source.specs.Parts.{Design, Part, parts, signals_of, registers_of, is_clocked, drives, reads}
-use Rattle.lv_source.specs.Sites.{Site, expr_sites}
+use Rattle.lv_source.specs.Sites.{Site, spots, expr_sites}
 use Rattle.lv_source.specs.NodeRules.{unknown_name, not_constant, zero_divisor, out_of_range}
 use Rattle.lv_source.specs.Settled.{IsSettled, Follows, SameInputs}
 
@@ -80,6 +80,10 @@ DependsOn d is e = (x : Declared) × (b : Bit) × Contains (signals_of d) x × I
 
 -- ---- what may be wrong with an expression of the contract: its names are those of signals
 
+-- no constant is among them
+abbrev pub top_here : Design → Here
+top_here d = record { names = top_names d; early = λ p. false }
+
 abbrev pub observed_sites : Design → Expr → List Site
 observed_sites d e = expr_sites false (top_names d) 0 e
 
@@ -87,7 +91,7 @@ abbrev pub unknown_in : Design → Expr → List ℕ
 unknown_in d e = flat_map unknown_name (observed_sites d e)
 
 abbrev pub not_constant_in : Design → Expr → List ℕ
-not_constant_in d e = flat_map not_constant (observed_sites d e)
+not_constant_in d e = flat_map not_constant (spots (top_here d) (observed_sites d e))
 
 abbrev pub zero_divisor_in : Design → Expr → List ℕ
 zero_divisor_in d e = flat_map zero_divisor (observed_sites d e)

@@ -1,5 +1,5 @@
 -- The signals and the parts of a source.
-use Rattle.std.specs.Prelude.{ℕ, suc, Bool, true, false, not, ◌&&◌, if◌then◌else◌, nat_le, List, [], ◌∷◌, ◌++◌, map, take, bytes_eq, Option, Some, None, flat_map, filter, sum}
+use Rattle.std.specs.Prelude.{ℕ, suc, Bool, true, false, not, ◌&&◌, ◌||◌, if◌then◌else◌, nat_le, List, [], ◌∷◌, ◌++◌, map, take, bytes_eq, Option, Some, None, flat_map, filter, sum}
 use Rattle.std.specs.List.{list_any}
 use Rattle.lv_ast.specs.declared.expr.Expr.{Expr}
 use Rattle.lv_ast.specs.declared.expr.Expr.TheOpen.{Expr-F, Select-F}
@@ -16,7 +16,7 @@ use Rattle.lv_ast.specs.declared.item.Module.{Module}
 use Rattle.lv_ast.specs.declared.item.Source.{Source}
 use Rattle.lv_ast.specs.Trees.{fold_expr, count_items}
 use Rattle.lv_ast.specs.Names.{Name, alone}
-use Rattle.lv_source.specs.Names.{Names, Declared, Valuation, known, width_of, is_signal_sort, is_variable_sort, is_input_sort, is_clock_sort}
+use Rattle.lv_source.specs.Names.{Names, Sort, Declared, Valuation, known, width_of, is_signal_sort, is_variable_sort, is_input_sort, is_clock_sort}
 use Rattle.lv_source.specs.Places.{Bit, Place, has_bit, cells, whole}
 use Rattle.lv_source.specs.Meaning.{Reading, Choice, is_nil, read_expr, read_step, index_reads}
 use Rattle.lv_source.specs.Effect.{Piece, pieces, places, bits_in, write_all, assigned, left_by}
@@ -43,7 +43,7 @@ abbrev pub scopes_from : Design → Option Module → List Scope
 scopes_from d None = []
 scopes_from d (Some m) = scopes_within (suc (depth d.source)) d.source (top_scope d m)
 
-abbrev pub scopes_of : Design → List Scope
+unfoldable pub scopes_of : Design → List Scope
 scopes_of d = scopes_from d (module_named d.source d.top)
 
 -- ---- signals
@@ -57,26 +57,45 @@ abbrev pub is_first : Bool → List Declaration → List Declaration → Bool
 is_first direction before all =
     if list_any is_direction all then direction && not (list_any is_direction before) else is_nil before
 
-abbrev pub stands_here : Scope → ℕ × Declaration → List Declared
-stands_here s kx =
+-- with its place, if it is of these sorts
+abbrev pub declares_here : (Sort → Bool) → Scope → ℕ × Declaration → List (ℕ × Declared)
+declares_here is s kx =
     let name : Name = kx.1.name.name in
     let d : Declared = known (s.names (alone name)) in
-    if is_signal_sort d.sort && is_first (is_direction kx.1) (declared_as name (take kx.0 s.declarations)) (declared_as name s.declarations) then d ∷ [] else []
+    if is d.sort && is_first (is_direction kx.1) (declared_as name (take kx.0 s.declarations)) (declared_as name s.declarations) then (kx.1.name.place, d) ∷ [] else []
+
+abbrev pub stands_here : Scope → ℕ × Declaration → List (ℕ × Declared)
+stands_here s kx = declares_here is_signal_sort s kx
 
 -- in the order of their places
-abbrev pub put_by_place : Declared → List Declared → List Declared
+abbrev pub put_by_place : ℕ × Declared → List (ℕ × Declared) → List (ℕ × Declared)
 put_by_place d [] = d ∷ []
-put_by_place d (e ∷ es) = if nat_le d.place e.place then d ∷ e ∷ es else e ∷ put_by_place d es
+put_by_place d (e ∷ es) = if nat_le d.0 e.0 then d ∷ e ∷ es else e ∷ put_by_place d es
 
-abbrev pub by_place : List Declared → List Declared
+abbrev pub by_place : List (ℕ × Declared) → List (ℕ × Declared)
 by_place [] = []
 by_place (d ∷ ds) = put_by_place d (by_place ds)
 
 abbrev pub scope_signals : Scope → List Declared
-scope_signals s = by_place (flat_map (stands_here s) (numbered_from 0 s.declarations))
+scope_signals s = map (λ kx. kx.1) (by_place (flat_map (stands_here s) (numbered_from 0 s.declarations)))
 
-abbrev pub signals_of : Design → List Declared
+unfoldable pub signals_of : Design → List Declared
 signals_of d = flat_map scope_signals (scopes_of d)
+
+-- ---- signals and clock names
+
+abbrev pub is_declared_sort : Sort → Bool
+is_declared_sort sort = is_signal_sort sort || is_clock_sort sort
+
+abbrev pub scope_declared : Scope → List Declared
+scope_declared s = map (λ kx. kx.1) (by_place (flat_map (declares_here is_declared_sort s) (numbered_from 0 s.declarations)))
+
+-- the signals, and each clock name of a scope among them
+unfoldable pub declared_of : Design → List Declared
+declared_of d = flat_map scope_declared (scopes_of d)
+
+abbrev pub is_signal : Declared → Bool
+is_signal x = is_signal_sort x.sort
 
 -- ---- parts
 
@@ -185,7 +204,7 @@ item_parts source s _ = []
 abbrev pub scope_parts : Source → Scope → List Part
 scope_parts source s = flat_map (item_parts source s) s.items
 
-abbrev pub parts : Design → List Part
+unfoldable pub parts : Design → List Part
 parts d = flat_map (scope_parts d.source) (scopes_of d)
 
 -- ---- what a part drives and reads

@@ -16,13 +16,13 @@ use Rattle.lv_ast.specs.declared.item.PortWord.TheVariants as w
 use Rattle.lv_ast.specs.declared.item.Source.{Source}
 use Rattle.lv_ast.specs.declared.item.Watch.TheVariants as v
 use Rattle.lv_ast.specs.Names.{Name, alone}
-use Rattle.lv_source.specs.Names.{Names, Sort, Input, Net, Variable, Clock, Constant, Other, Declared, Bounds, known, size, width_of, is_signal_sort, is_clock_sort}
+use Rattle.lv_source.specs.Names.{Names, Here, Sort, Input, Net, Variable, Clock, Constant, Other, Declared, Bounds, known, size, width_of, is_signal_sort, is_clock_sort}
 use Rattle.lv_source.specs.Names.{Index as IndexSort}
 use Rattle.lv_source.specs.Declarations.{Thing, Direction, Wire, Reg, Parameter, Index, Instance, Label, Declaration, port_names, declared_as}
-use Rattle.lv_source.specs.Scopes.{Scope, module_named, instance_scopes, is_among, is_direction, is_output, links, Link, settable_in, setting_width, is_clock, bound_number, range_bounds, names_at, counted_items}
+use Rattle.lv_source.specs.Scopes.{Scope, module_named, instance_scopes, is_among, is_direction, is_output, links, Link, settable_in, setting_width, is_clock, bound_number, range_bounds, here_at, counted_items}
 use Rattle.lv_source.specs.Parts.{numbered_from, as_target}
-use Rattle.lv_source.specs.Sites.{Driven, Site, first_place, first_of, walk, expr_sites, sink_sites, target_sites}
-use Rattle.lv_source.specs.Standing.{Empty, Test, Choose, Repeat, Assign, Standing, standing, stmt_sites, target_width, header_sites}
+use Rattle.lv_source.specs.Sites.{Driven, Site, Spot, spots, first_place, first_of, walk, expr_sites, sink_sites, target_sites}
+use Rattle.lv_source.specs.Standing.{Empty, Test, Choose, Repeat, Assign, Standing, standing, stmt_spots, target_width, header_spots}
 use Rattle.lv_source.specs.NodeRules.{is_bound, is_width, unknown_name, not_constant, zero_divisor, out_of_range, clock_use}
 
 abbrev pub place_if : Bool → ℕ → List ℕ
@@ -88,29 +88,32 @@ setting_sites s names settings (Some m) =
 abbrev pub item_sites : Source → Scope → Names → Item → List Site
 item_sites source s names (i.Wire signed range nets) = flat_map (λ n. maybe_sites false names (port_width s n.name.name) n.value) nets
 item_sites source s names (i.Assign list) = flat_map (λ a. target_sites names Driven a.target ++ expr_sites false names (target_width names a.target) a.value) list
-item_sites source s names (i.Always watch stmt place) = stmt_sites names stmt
 item_sites source s names (i.Instance kind settings insts) =
     setting_sites s names settings (module_named source kind.name) ++ flat_map (λ inst. inst_sites source s names settings inst (module_named source kind.name)) insts
-item_sites source s names (i.Loop' index start test again next label n items) = header_sites names index start test next
 item_sites source s names _ = []
 
--- each item with the names where it stands
+abbrev pub item_spots : Source → Scope → Here → Item → List Spot
+item_spots source s here (i.Always watch stmt place) = stmt_spots here stmt
+item_spots source s here (i.Loop' index start test again next label n items) = header_spots here index start test next
+item_spots source s here x = spots here (item_sites source s here.names x)
+
+-- each item where it stands
+abbrev pub here_items : {A : Type 0} → (Here → Item → List A) → Scope → List A
+here_items f s = flat_map (λ kx. f (here_at s kx.0) kx.1) (counted_items s)
+
 abbrev pub at_items : {A : Type 0} → (Names → Item → List A) → Scope → List A
-at_items f s = flat_map (λ kx. f (names_at s kx.0) kx.1) (counted_items s)
+at_items f s = flat_map (f s.names) s.items
 
--- each declaration with the names where it stands
-abbrev pub at_declarations : {A : Type 0} → (Names → Declaration → List A) → Scope → List A
-at_declarations f s = flat_map (λ kd. f (names_at s kd.0) kd.1) (numbered_from 0 s.declarations)
+abbrev pub scope_spots : Source → Scope → List Spot
+scope_spots source s =
+    flat_map (λ kd. spots (here_at s kd.0) (declaration_sites s.names kd.1)) (numbered_from 0 s.declarations) ++ here_items (item_spots source s) s
 
-abbrev pub scope_sites : Source → Scope → List Site
-scope_sites source s = at_declarations declaration_sites s ++ at_items (item_sites source s) s
-
-abbrev pub standing_in : Names → Item → List Standing
-standing_in names (i.Always watch stmt place) = standing names stmt
-standing_in names _ = []
+abbrev pub standing_in : Here → Item → List Standing
+standing_in here (i.Always watch stmt place) = standing here stmt
+standing_in here _ = []
 
 abbrev pub scope_standing : Scope → List Standing
-scope_standing s = at_items standing_in s
+scope_standing s = here_items standing_in s
 
 -- ---- UnknownModule: an instance names no module
 
@@ -137,7 +140,7 @@ unknown_in_form k = elim k.form [
   | Empty ↦ []
   | Test x ↦ []
   | Choose x arms ↦ []
-  | Repeat index start test again next ↦ header_names false k.names index again
+  | Repeat index start test again next ↦ header_names false k.here.names index again
   | Assign at_once t x ↦ []
 ]
 
@@ -165,15 +168,15 @@ unknown_in_item source names _ = []
 
 abbrev pub unknown_names : Source → Scope → List ℕ
 unknown_names source s =
-    flat_map unknown_name (scope_sites source s) ++ flat_map unknown_in_form (scope_standing s) ++ at_items (unknown_in_item source) s
+    flat_map (λ x. unknown_name x.site) (scope_spots source s) ++ flat_map unknown_in_form (scope_standing s) ++ at_items (unknown_in_item source) s
 
 -- ---- NotConstant and ZeroDivisor
 
 abbrev pub not_constants : Source → Scope → List ℕ
-not_constants source s = flat_map not_constant (scope_sites source s)
+not_constants source s = flat_map not_constant (scope_spots source s)
 
 abbrev pub zero_divisors : Source → Scope → List ℕ
-zero_divisors source s = flat_map zero_divisor (scope_sites source s)
+zero_divisors source s = flat_map (λ x. zero_divisor x.site) (scope_spots source s)
 
 -- ---- Range
 
@@ -204,7 +207,7 @@ range_in_form k = elim k.form [
   | Test x ↦ []
   | Choose x arms ↦ []
   | Repeat index start test again next ↦ []
-  | Assign at_once t x ↦ target_fault k.names t
+  | Assign at_once t x ↦ target_fault k.here.names t
 ]
 
 abbrev pub range_in_item : Names → Item → List ℕ
@@ -213,7 +216,7 @@ range_in_item names _ = []
 
 abbrev pub ranges : Source → Scope → List ℕ
 ranges source s =
-    flat_map out_of_range (scope_sites source s) ++ at_declarations range_fault s ++ flat_map range_in_form (scope_standing s) ++ at_items range_in_item s
+    flat_map (λ x. out_of_range x.site) (scope_spots source s) ++ flat_map (range_fault s.names) s.declarations ++ flat_map range_in_form (scope_standing s) ++ at_items range_in_item s
 
 -- ---- Duplicate
 
@@ -255,7 +258,7 @@ abbrev pub two_defaults : Standing → List ℕ
 two_defaults k = elim k.form [
   | Empty ↦ []
   | Test x ↦ []
-  | Choose x arms ↦ place_if (nat_lt 1 (length (filter is_nil arms))) (first_in k.names x)
+  | Choose x arms ↦ place_if (nat_lt 1 (length (filter is_nil arms))) (first_in k.here.names x)
   | Repeat index start test again next ↦ []
   | Assign at_once t x ↦ []
 ]
@@ -366,4 +369,4 @@ ports source s = at_items (ports_in_item source s) s ++ port_directions s ++ fla
 -- ---- ClockUse in expressions and targets
 
 abbrev pub clock_uses : Source → Scope → List ℕ
-clock_uses source s = flat_map clock_use (scope_sites source s)
+clock_uses source s = flat_map (λ x. clock_use x.site) (scope_spots source s)

@@ -21,7 +21,7 @@ use Rattle.lv_ast.specs.declared.item.Ports.TheVariants as p
 use Rattle.lv_source.specs.Values.{Meaning, number_of, nowhere}
 use Rattle.lv_ast.specs.Trees.{spread_all}
 use Rattle.lv_ast.specs.Names.{Name, spelled, signed_decimal, at_index, below, has_no_steps, alone}
-use Rattle.lv_source.specs.Names.{Bounds, Sort, Input, Net, Variable, Clock, Constant, Other, Declared, Names, no_declaration, known, size, width_of, with_name, is_clock_sort}
+use Rattle.lv_source.specs.Names.{Bounds, Sort, Input, Net, Variable, Clock, Constant, Other, Declared, Names, Here, no_declaration, known, size, width_of, with_name, with_early, is_clock_sort}
 use Rattle.lv_source.specs.Names.{Index as Index_sort}
 use Rattle.lv_source.specs.Meaning.{meaning}
 use Rattle.lv_source.specs.Effect.{assigned, turns, with_index}
@@ -33,6 +33,8 @@ pub record Scope : Type 0 where
   pub declarations : List Declaration
   pub items : List Item
   pub names : Names
+  -- which constants around it are declared before it
+  pub early : Path → Bool
   -- the modules that stand around, its own among them
   pub around : List Name
   -- of a module; none in a turn of a loop
@@ -68,18 +70,18 @@ is_ranged (Some r) = true
 
 -- ---- parameters
 
-abbrev pub constant : Name → ℕ → Bounds → Bool → ℕ → Declared
-constant name place bounds signed value =
-    record { path = name; bounds = bounds; ranged = true; signed = signed; array = None; sort = Constant value; place = place; early = false }
+abbrev pub constant : Name → Bounds → Bool → ℕ → Declared
+constant name bounds signed value =
+    record { path = name; bounds = bounds; ranged = true; signed = signed; array = None; sort = Constant value }
 
 -- the constant that a parameter becomes with a value that is read among `there`
 abbrev pub parameter : Names → Ident → Bool → Option Range → Names → Expr → Declared
 parameter here name signed None there value =
     let m : Meaning = meaning there value in
-    constant name.name name.place (record { left = m.width - 1; right = 0 }) (signed || m.signed) (m.value m.width m.signed nowhere)
+    constant name.name (record { left = m.width - 1; right = 0 }) (signed || m.signed) (m.value m.width m.signed nowhere)
 parameter here name signed (Some r) there value =
     let b : Bounds = bounds_of here r in
-    constant name.name name.place b signed (assigned nowhere (size b) (meaning there value))
+    constant name.name b signed (assigned nowhere (size b) (meaning there value))
 
 -- a value from an instance, with the names among which it is read
 pub record Override : Type 0 where
@@ -126,36 +128,27 @@ abbrev pub sort_of : Bool → Bool → List Declaration → Sort
 sort_of top clock ds =
     if clock then Clock else if list_any is_reg ds then Variable else if top && list_any is_input ds then Input else Net
 
-abbrev pub place_or : ℕ → Option Declaration → ℕ
-place_or place None = place
-place_or place (Some d) = d.name.place
-
--- the place of a port is that of its direction
-abbrev pub place_among : ℕ → List Declaration → ℕ
-place_among place ds = place_or place (find is_direction ds)
-
-abbrev pub signal : Names → Name → Name → Sort → ℕ → Bool → Option Range → Option Range → Declared
-signal names path name sort place signed range array =
+abbrev pub signal : Names → Name → Name → Sort → Bool → Option Range → Option Range → Declared
+signal names path name sort signed range array =
     let b : Bounds = range_bounds names range in
-    record { path = below path (spelled name); bounds = b; ranged = is_ranged range; signed = signed; array = array_bounds names array; sort = sort; place = place; early = false }
+    record { path = below path (spelled name); bounds = b; ranged = is_ranged range; signed = signed; array = array_bounds names array; sort = sort }
 
-abbrev pub other : Sort → Ident → Declared
-other sort name = record no_declaration { place = name.place; sort = sort }
+abbrev pub other : Sort → Declared
+other sort = record no_declaration { sort = sort }
 
 -- what the declarations of one name make of it, by the first of them
 abbrev pub stands_for : Names → Name → Bool → Bool → Path → List Declaration → Option Declared
 stands_for names path top clock p [] = names p
 stands_for names path top clock p (d ∷ ds) =
     let sort : Sort = sort_of top clock (d ∷ ds) in
-    let place : ℕ = place_among d.name.place (d ∷ ds) in
     elim d.thing [
-      | Direction o w signed range ↦ Some (signal names path d.name.name sort place signed range None)
-      | Wire signed range ↦ Some (signal names path d.name.name sort place signed range None)
-      | Reg signed range array ↦ Some (signal names path d.name.name sort place signed range array)
+      | Direction o w signed range ↦ Some (signal names path d.name.name sort signed range None)
+      | Wire signed range ↦ Some (signal names path d.name.name sort signed range None)
+      | Reg signed range array ↦ Some (signal names path d.name.name sort signed range array)
       | Parameter l s r v ↦ names p
-      | Index g ↦ Some (other (Index_sort g) d.name)
-      | Instance ↦ Some (other Other d.name)
-      | Label ↦ Some (other Other d.name)
+      | Index g ↦ Some (other (Index_sort g))
+      | Instance ↦ Some (other Other)
+      | Label ↦ Some (other Other)
     ]
 
 abbrev pub is_among : List Name → Name → Bool
@@ -220,6 +213,7 @@ module_scope path top around os clocks m =
       declarations = ds;
       items = module_items m;
       names = scope_names constants path top (filter (is_one_bit_input constants ds) (clocks constants)) ds;
+      early = λ p. false;
       around = m.name.name ∷ around;
       ports = m.ports;
       params = m.params;
@@ -250,12 +244,38 @@ abbrev pub instance_scopes : Scope → List Conn → Inst → Option Module → 
 instance_scopes s settings inst None = []
 instance_scopes s settings inst (Some m) = if is_among s.around m.name.name then [] else instance_scope s settings inst m ∷ []
 
-abbrev pub turn_scope : Scope → Names → Ident → Ident → List Item → ℕ → Scope
-turn_scope s names index label items value =
+abbrev pub is_parameter : Declaration → Bool
+is_parameter d = elim d.thing [ Direction o w s r ↦ false | Wire s r ↦ false | Reg s r b ↦ false | Parameter l s r v ↦ true | Index g ↦ false | Instance ↦ false | Label ↦ false ]
+
+-- by the declarations of a name in a scope, and those that stand before
+abbrev pub early_by : List Declaration → List Declaration → Bool → Bool
+early_by [] before around = around
+early_by (d ∷ ds) before around = list_any is_parameter before
+
+-- which constants are declared where so many declarations stand before
+abbrev pub early_at : Scope → ℕ → Path → Bool
+early_at s k p = early_by (declared_as p.name s.declarations) (declared_as p.name (take k s.declarations)) (s.early p)
+
+abbrev pub here_at : Scope → ℕ → Here
+here_at s k = record { names = s.names; early = early_at s k }
+
+-- a turn of a loop, where so many declarations stand before the loop
+abbrev pub turn_scope : Scope → ℕ → Ident → Ident → List Item → ℕ → Scope
+turn_scope s k index label items value =
     let path : Name = below s.path (at_index (spelled label.name) (signed_decimal (signed_of 32 value))) in
     let ds : List Declaration = of_items items in
-    let constants : Names = with_parameters [] (with_index names index.name index.place value) ds in
-    record { path = path; declarations = ds; items = items; names = scope_names constants path false [] ds; around = s.around; ports = p.Empty; params = []; header = 0 }
+    let constants : Names = with_parameters [] (with_index s.names index.name value) ds in
+    record {
+      path = path;
+      declarations = ds;
+      items = items;
+      names = scope_names constants path false [] ds;
+      early = with_early (early_at s k) index.name;
+      around = s.around;
+      ports = p.Empty;
+      params = [];
+      header = 0;
+    }
 
 -- each item with the count of the declarations before it
 abbrev pub counted_from : ℕ → List Item → List (ℕ × Item)
@@ -265,25 +285,10 @@ counted_from k (x ∷ xs) = (k, x) ∷ counted_from (k + length (of_item x)) xs
 abbrev pub counted_items : Scope → List (ℕ × Item)
 counted_items s = counted_from s.header s.items
 
-abbrev pub is_parameter : Declaration → Bool
-is_parameter d = elim d.thing [ Direction o w s r ↦ false | Wire s r ↦ false | Reg s r b ↦ false | Parameter l s r v ↦ true | Index g ↦ false | Instance ↦ false | Label ↦ false ]
-
-abbrev pub made_early : Bool → Option Declared → Option Declared
-made_early early None = None
-made_early early (Some d) = Some (record d { early = early })
-
-abbrev pub names_by : List Declaration → List Declaration → Names → Names
-names_by [] before names p = names p
-names_by (d ∷ ds) before names p = made_early (list_any is_parameter before) (names p)
-
--- the names where so many declarations stand before
-abbrev pub names_at : Scope → ℕ → Names
-names_at s k p = names_by (declared_as p.name s.declarations) (declared_as p.name (take k s.declarations)) s.names p
-
 abbrev pub children_by : Source → Scope → ℕ × Item → List Scope
 children_by source s (k, i.Instance kind settings insts) = flat_map (λ inst. instance_scopes s settings inst (module_named source kind.name)) insts
 children_by source s (k, i.Loop' index start test again next label n items) =
-    map (turn_scope s (names_at s k) index label (spread_all items)) (turns s.names index.name index.place start test next)
+    map (turn_scope s k index label (spread_all items)) (turns s.names index.name start test next)
 children_by source s _ = []
 
 abbrev pub children : Source → Scope → List Scope

@@ -94,7 +94,7 @@ summary_step (Stmt-F.Block name body) names = all_summaries (map (λ f. f names)
 summary_step (Stmt-F.If x then_ else_) names = if_summary (read_expr names x) (then_ names) (summary_or else_ names)
 summary_step (Stmt-F.Case wild x arms) names = case_summary wild x arms names
 summary_step (Stmt-F.Loop index start test again next body) names =
-    all_summaries (map (λ k. body (with_index names index.name index.place k)) (turns names index.name index.place start test next))
+    all_summaries (map (λ k. body (with_index names index.name k)) (turns names index.name start test next))
 summary_step (Stmt-F.Now target x place) names = write_summary (pieces names target) (read_expr names x)
 summary_step (Stmt-F.Later target x place) names = write_summary (pieces names target) (read_expr names x)
 

@@ -5,7 +5,7 @@ use sqlite_items::{Boxed, Items};
 use std::alloc::Global;
 
 /// A number (IEEE 1364-2005, section 3.5).
-#[derive(Clone, Copy, Debug, PartialEq, Eq)]
+#[derive(Clone, Copy, PartialEq, Eq)]
 pub struct Literal {
     /// Its width in bits, where it is written; else it has 32.
     pub size: Option<u128>,
@@ -20,23 +20,40 @@ pub struct Literal {
 }
 
 /// A scope in a path, with the number of a turn where it is one of a generate loop.
-#[derive(Debug, Drop)]
 pub struct PathStep {
     pub name: Text,
     pub index: Option<u128>,
 }
 
+impl Drop for PathStep {
+    fn drop(self) {
+        let PathStep { name, index: _ } = self;
+        drop(name);
+    }
+}
+
 /// A name, in a contract file with the scopes that lead to it.
-#[derive(Debug, Drop)]
 pub struct Path {
     pub steps: Items<PathStep>,
     pub name: Text,
     pub place: u64,
 }
 
+impl Drop for Path {
+    fn drop(self) {
+        let Path {
+            steps,
+            name,
+            place: _,
+        } = self;
+        drop(steps);
+        drop(name);
+    }
+}
+
 /// A bit or part select (IEEE 1364-2005, section 5.2): `[e]`, `[l:r]`, `[e +: w]`, `[e -: w]`.
 #[cycle(ast)]
-#[derive(Debug, Drop)]
+#[derive(Drop)]
 pub enum Select {
     Bit(Boxed<Expr>),
     Part(Boxed<Expr>, Boxed<Expr>),
@@ -46,7 +63,7 @@ pub enum Select {
 
 /// An expression (IEEE 1364-2005, section 5). Parentheses and unary `+` leave no node.
 #[cycle(ast)]
-#[derive(Debug, Drop)]
+#[derive(Drop)]
 pub enum Expr {
     Lit(Literal),
     Name(Path, Items<Select>),
@@ -84,6 +101,14 @@ fn copy_steps(alloc: Global, steps: &[PathStep]) -> Result<Items<PathStep>, NoMe
 }
 
 impl Path {
+    /// Its fields.
+    pub fn into_parts(self) -> (Items<PathStep>, Text, u64)
+        ensures { result ≡ (self.steps, self.name, self.place) }
+    {
+        let Path { steps, name, place } = self;
+        (steps, name, place)
+    }
+
     pub fn copy(&self, alloc: Global) -> Result<Path, NoMemory>
         ensures { IfOk result (λ p. p ≡ self.now) }
     {

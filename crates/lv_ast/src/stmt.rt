@@ -1,13 +1,31 @@
+ghost use Rattle.std.specs.Prelude.{◌≡◌};
+
 use crate::{Expr, Path, Select};
 use lv_bits::Text;
 use lv_held::Held;
 use sqlite_items::{Boxed, Items};
 
 /// A name where it is declared or used.
-#[derive(Debug, Drop)]
 pub struct Ident {
     pub name: Text,
     pub place: u64,
+}
+
+impl Drop for Ident {
+    fn drop(self) {
+        let Ident { name, place: _ } = self;
+        drop(name);
+    }
+}
+
+impl Ident {
+    /// Its fields.
+    pub fn into_parts(self) -> (Text, u64)
+        ensures { result ≡ (self.name, self.place) }
+    {
+        let Ident { name, place } = self;
+        (name, place)
+    }
 }
 
 /// What an assignment writes (IEEE 1364-2005, section 6.1.1).

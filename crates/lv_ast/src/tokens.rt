@@ -1,4 +1,4 @@
-ghost use Rattle.std.specs.Prelude.{IsTrue};
+ghost use Rattle.std.specs.Prelude.{◌≡◌, IsTrue};
 ghost use Rattle.lv_ast.specs.TokenLists.{are_tokens};
 
 use lv_bits::Text;
@@ -39,9 +39,27 @@ pub struct Token {
 
 /// Tokens over a text. Each is a slice of the text that is one whole token of its kind, and each literal among them
 /// has no significant and no written free bit above bit 127.
-#[derive(Debug, Drop)]
 pub struct Tokens {
     pub list: Items<Token>,
     pub text: Text,
     ghost whole: { IsTrue (are_tokens text list) },
+}
+
+impl Drop for Tokens {
+    fn drop(self) {
+        let Tokens { list, text } = self;
+        drop(list);
+        drop(text);
+    }
+}
+
+impl Tokens {
+    /// The text that its tokens are slices of.
+    pub fn into_text(self) -> Text
+        ensures { result ≡ self.text }
+    {
+        let Tokens { list, text } = self;
+        drop(list);
+        text
+    }
 }

@@ -87,11 +87,7 @@ pub fn path_behind(
 pub fn steps_behind(path: Path, index: Option<u128>) -> Result<(Items<PathStep>, u64), NoMemory>
     ensures { IfOk result (λ r. r ≡ (trees.steps_behind path index, path.place)) }
 {
-    let Path {
-        mut steps,
-        name,
-        place,
-    } = path;
+    let (mut steps, name, place) = path.into_parts();
     steps.push(PathStep { name, index })?;
     Ok((steps, place))
 }
@@ -213,7 +209,12 @@ fn triple<A: Drop, B: Drop, C: Drop>(
 }
 
 /// The tree of two operands with a sign between them.
-pub fn infix_tree(alloc: Global, sign: Sign, x: Held<Expr>, y: Held<Expr>) -> Result<Held<Expr>, NoMemory>
+pub fn infix_tree(
+    alloc: Global,
+    sign: Sign,
+    x: Held<Expr>,
+    y: Held<Expr>,
+) -> Result<Held<Expr>, NoMemory>
     ensures { IfOk result (λ e. e ≡ trees.infix_tree sign x y) }
 {
     let (x, y) = pair(alloc, x.into_inner(), y.into_inner())?;
@@ -224,7 +225,12 @@ pub fn infix_tree(alloc: Global, sign: Sign, x: Held<Expr>, y: Held<Expr>) -> Re
     }
 }
 
-pub fn choice(alloc: Global, c: Held<Expr>, x: Held<Expr>, y: Held<Expr>) -> Result<Held<Expr>, NoMemory>
+pub fn choice(
+    alloc: Global,
+    c: Held<Expr>,
+    x: Held<Expr>,
+    y: Held<Expr>,
+) -> Result<Held<Expr>, NoMemory>
     ensures { IfOk result (λ e. e ≡ Expr.Cond c x y) }
 {
     let (c, x, y) = triple(alloc, c.into_inner(), x.into_inner(), y.into_inner())?;
@@ -243,7 +249,12 @@ pub fn repeat(alloc: Global, count: Held<Expr>, list: Items<Expr>) -> Result<Hel
     Ok(Held::new(Expr::Rep(Boxed::new(alloc, count.into_inner())?, list)))
 }
 
-pub fn part_select(alloc: Global, divider: Divider, x: Held<Expr>, y: Held<Expr>) -> Result<Select, NoMemory>
+pub fn part_select(
+    alloc: Global,
+    divider: Divider,
+    x: Held<Expr>,
+    y: Held<Expr>,
+) -> Result<Select, NoMemory>
     ensures { IfOk result (λ s. s ≡ trees.part_select divider x y) }
 {
     let (x, y) = pair(alloc, x.into_inner(), y.into_inner())?;

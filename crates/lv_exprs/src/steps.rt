@@ -47,7 +47,13 @@ fn close_left(
     Ok(whole_operand(tree, low.max(reach)))
 }
 
-fn close_colon(alloc: Global, c: Held<Expr>, y: Held<Expr>, low: u32, x: Operand) -> Result<Operand, NoMemory>
+fn close_colon(
+    alloc: Global,
+    c: Held<Expr>,
+    y: Held<Expr>,
+    low: u32,
+    x: Operand,
+) -> Result<Operand, NoMemory>
     ensures { IfOk result (λ r. r ≡ step.close (Frame.Colon c y low) x) }
 {
     let Operand { content, reach } = x;
@@ -218,7 +224,10 @@ fn end_brace(
         Symbol::RightBrace => {
             let Operand { content, reach } = x;
             let list = listed(alloc, list, content)?;
-            Ok(Step::Next(Standing::Have(whole_operand(Held::new(Expr::Cat(list)), low.max(reach)))))
+            Ok(Step::Next(Standing::Have(whole_operand(
+                Held::new(Expr::Cat(list)),
+                low.max(reach),
+            ))))
         }
         Symbol::LeftBrace => begin_repeat(alloc, stack, list, low, x),
         _ => Ok(bad(Frame::Brace(list, low), x)),

@@ -4,7 +4,7 @@ use Rattle.lv_ast.specs.declared.tokens.Token.{Token}
 use Rattle.lv_exprs.specs.declared.error.SyntaxError.{SyntaxError}
 use Rattle.lv_viable.specs.Grammar.{Gram}
 use Rattle.lv_viable.specs.Spelling.{Limit}
-use Rattle.lv_parser.specs.Shapes.{base}
+use Rattle.lv_grammar.specs.Shapes.{base}
 use Rattle.lv_parser.specs.Answers.{Answer}
 use Rattle.lv_parser.specs.Paths.{Path}
 use Rattle.lv_parser.proofs.Paths.{last, refuse_last}

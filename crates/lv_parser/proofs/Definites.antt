@@ -19,15 +19,15 @@ use Rattle.lv_viable.specs.Grammar.{Gram, leaf, act}
 use Rattle.lv_viable.specs.Sets.{is_good}
 use Rattle.lv_viable.specs.Spelling.{Limit}
 use Rattle.lv_viable.specs.Reading.{Reads, Fails, PassesLimit, Begins}
-use Rattle.lv_parser.specs.Lexemes.{Lexeme, lexeme, lexemes, head, place_of}
-use Rattle.lv_parser.specs.Shapes.{Leaf, value, label, Placed, base, table}
-use Rattle.lv_parser.specs.Rules as rules
-use Rattle.lv_parser.specs.Leaves.{symbol_of, symbols_of, ValidAt, IsExpression, IsLowExpression, all, within}
+use Rattle.lv_grammar.specs.Lexemes.{Lexeme, lexeme, lexemes, head, place_of}
+use Rattle.lv_grammar.specs.Shapes.{Leaf, value, label, Placed, base, table}
+use Rattle.lv_grammar.specs.Rules as rules
+use Rattle.lv_grammar.specs.Leaves.{symbol_of, symbols_of, ValidAt, IsExpression, IsLowExpression, all, within}
 use Rattle.lv_parser.specs.Answers.{from, placed, placed_result, IsRead, IsRefused, Refuses, Answer, GoesOn}
 use Rattle.lv_viable.proofs.Lists.{true_false, nil_cons}
-use Rattle.lv_parser.proofs.Expressions.{begins}
+use Rattle.lv_grammar.proofs.Expressions.{begins}
 use Rattle.lv_parser.proofs.Paths.{begin, through, last, refuse_last}
-use Rattle.lv_parser.proofs.Completions.{Completed, completed}
+use Rattle.lv_grammar.proofs.Completions.{Completed, completed}
 
 -- ---- the tokens as symbols
 

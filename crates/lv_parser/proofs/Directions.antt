@@ -6,8 +6,8 @@ use Rattle.lv_viable.specs.Sets.{these, apart, first}
 use Rattle.lv_viable.specs.Nexts.{lacks_none, lacks_also, Outside}
 use Rattle.lv_viable.proofs.Lists.{or_cases, not_or_left, not_or_right}
 use Rattle.lv_viable.proofs.Good.{outside_these}
-use Rattle.lv_parser.specs.Shapes.{base, table, stands}
-use Rattle.lv_parser.specs.Shapes as shapes
+use Rattle.lv_grammar.specs.Shapes.{base, table, stands}
+use Rattle.lv_grammar.specs.Shapes as shapes
 use Rattle.lv_parser.specs.Answers.{from}
 use Rattle.lv_parser.proofs.Paths.{lacks_of, other}
 

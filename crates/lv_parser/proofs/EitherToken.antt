@@ -6,9 +6,9 @@ use Rattle.lv_viable.specs.Sets.{these, among, shapes, first}
 use Rattle.lv_viable.specs.Nexts.{Opens, Outside, lacks_none, lacks_also}
 use Rattle.lv_viable.proofs.Good.{outside_these}
 use Rattle.lv_viable.proofs.Lists.{or_cases, not_or_left, not_or_right}
-use Rattle.lv_parser.specs.Shapes.{Shape, base, table, stands}
-use Rattle.lv_parser.specs.Leaves.{all}
-use Rattle.lv_parser.specs.Rules.{rules}
+use Rattle.lv_grammar.specs.Shapes.{Shape, base, table, stands}
+use Rattle.lv_grammar.specs.Leaves.{all}
+use Rattle.lv_grammar.specs.Rules.{rules}
 use Rattle.lv_parser.specs.Answers.{from}
 use Rattle.lv_parser.proofs.Paths.{opens, lacks_of}
 

@@ -8,9 +8,9 @@ use Rattle.lv_viable.specs.Grammar.{Gram, one, act}
 use Rattle.lv_viable.specs.Spelling.{Limit}
 use Rattle.lv_viable.specs.Sets.{some_of}
 use Rattle.lv_viable.proofs.Readers.{one_fails}
-use Rattle.lv_parser.specs.Lexemes.{Lexeme, lexeme, lexemes, head, place_of}
-use Rattle.lv_parser.specs.Shapes.{Shape, Rule, Placed, base, fits, stands, rule_leads}
-use Rattle.lv_parser.specs.Shapes as shapes
+use Rattle.lv_grammar.specs.Lexemes.{Lexeme, lexeme, lexemes, head, place_of}
+use Rattle.lv_grammar.specs.Shapes.{Shape, Rule, Placed, base, fits, stands, rule_leads}
+use Rattle.lv_grammar.specs.Shapes as shapes
 use Rattle.lv_parser.specs.Answers.{from, leads, placed_result, IsRead, IsRefused, Answer}
 use Rattle.lv_parser.proofs.Paths.{lacks_of}
 

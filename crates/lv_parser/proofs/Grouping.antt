@@ -11,16 +11,16 @@ use Rattle.lv_viable.proofs.Loops as loops
 use Rattle.lv_viable.proofs.Rounds as rounds
 use Rattle.lv_viable.proofs.Ways as ways
 use Rattle.lv_viable.proofs.Grammars.{four_true}
-use Rattle.lv_parser.specs.Lexemes.{Lexeme, head}
-use Rattle.lv_parser.specs.Shapes.{base, table, stands}
-use Rattle.lv_parser.specs.Shapes as shapes
-use Rattle.lv_parser.specs.Leaves.{all, within}
-use Rattle.lv_parser.specs.Rules.{comma, grouped, groups, all_groups}
+use Rattle.lv_grammar.specs.Lexemes.{Lexeme, head}
+use Rattle.lv_grammar.specs.Shapes.{base, table, stands}
+use Rattle.lv_grammar.specs.Shapes as shapes
+use Rattle.lv_grammar.specs.Leaves.{all, within}
+use Rattle.lv_grammar.specs.Rules.{comma, grouped, groups, all_groups}
 use Rattle.lv_parser.specs.Answers.{from, IsRead, Refuses, IsRefused}
 use Rattle.lv_parser.specs.Paths.{Path}
 use Rattle.lv_parser.specs.Steps.{closed, grown, grown_by}
 use Rattle.lv_parser.specs.Grouping.{Grouped}
-use Rattle.lv_parser.proofs.Settings.{setting}
+use Rattle.lv_grammar.proofs.Settings.{setting}
 use Rattle.lv_parser.proofs.Paths.{begin, through, then, last, refuse, refuse_last, token_read, opens, absent}
 
 -- an entry with its comma

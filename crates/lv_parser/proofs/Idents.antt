@@ -5,10 +5,10 @@ use Rattle.lv_ast.specs.declared.tokens.Token.{Token}
 use Rattle.lv_ast.specs.declared.stmt.Ident.{Ident}
 use Rattle.lv_exprs.specs.declared.error.SyntaxError.TheVariants as error
 use Rattle.lv_viable.specs.Spelling.{Limit}
-use Rattle.lv_parser.specs.Lexemes.{lexeme, name_by, ident_of, head}
-use Rattle.lv_parser.specs.Shapes.{fits}
-use Rattle.lv_parser.specs.Shapes as shapes
-use Rattle.lv_parser.specs.Rules.{ident}
+use Rattle.lv_grammar.specs.Lexemes.{lexeme, name_by, ident_of, head}
+use Rattle.lv_grammar.specs.Shapes.{fits}
+use Rattle.lv_grammar.specs.Shapes as shapes
+use Rattle.lv_grammar.specs.Rules.{ident}
 use Rattle.lv_parser.specs.Answers.{from, IsRead, IsRefused}
 use Rattle.lv_parser.proofs.Paths.{begin, through, last, refuse_last, token_read}
 use Rattle.lv_parser.proofs.Fronts.{stands_some, stands_none, head_some, token_refused}

@@ -7,10 +7,10 @@ use Rattle.lv_exprs.specs.declared.error.SyntaxError.TheVariants as error
 use Rattle.lv_viable.specs.Grammar.{Gram, call, until}
 use Rattle.lv_viable.specs.Spelling.{Limit, most, allows, lowered, inside}
 use Rattle.lv_viable.specs.Sets.{is_good, apart, these, first}
-use Rattle.lv_parser.specs.Lexemes.{Lexeme}
-use Rattle.lv_parser.specs.Shapes.{base, table, stands}
-use Rattle.lv_parser.specs.Shapes as shapes
-use Rattle.lv_parser.specs.Rules as rules
+use Rattle.lv_grammar.specs.Lexemes.{Lexeme}
+use Rattle.lv_grammar.specs.Shapes.{base, table, stands}
+use Rattle.lv_grammar.specs.Shapes as shapes
+use Rattle.lv_grammar.specs.Rules as rules
 use Rattle.lv_parser.specs.Answers.{from, leads, IsRefused, AnswersItems}
 use Rattle.lv_parser.specs.Paths.{Path}
 use Rattle.lv_parser.proofs.Fronts.{leads_is}

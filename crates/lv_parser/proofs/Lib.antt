@@ -1,10 +1,7 @@
 pub mod Carried
-pub mod Completions
 pub mod Definites
 pub mod Directions
 pub mod EitherToken
-pub mod Expressions
-pub mod Fits
 pub mod Fronts
 pub mod Grouping
 pub mod Idents
@@ -12,8 +9,6 @@ pub mod Instead
 pub mod ItemPaths
 pub mod Paths
 pub mod Selects
-pub mod Settings
-pub mod Shaped
 pub mod Sources
 pub mod StatementPaths
 pub mod TargetPaths

@@ -18,14 +18,14 @@ use Rattle.lv_viable.proofs.Good as good
 use Rattle.lv_viable.proofs.Ways as ways
 use Rattle.lv_viable.proofs.Grammars.{four_true}
 use Rattle.lv_viable.proofs.Lists.{true_false, nil_cons, same_tail}
-use Rattle.lv_parser.specs.Lexemes.{Lexeme, lexemes, head}
-use Rattle.lv_parser.specs.Shapes.{Shape, base, table, fits, stands}
-use Rattle.lv_parser.specs.Shapes as shapes
-use Rattle.lv_parser.specs.Leaves.{all, within, limits}
-use Rattle.lv_parser.specs.Rules.{rules, comma, list, behind, before, first_and_others}
+use Rattle.lv_grammar.specs.Lexemes.{Lexeme, lexemes, head}
+use Rattle.lv_grammar.specs.Shapes.{Shape, base, table, fits, stands}
+use Rattle.lv_grammar.specs.Shapes as shapes
+use Rattle.lv_grammar.specs.Leaves.{all, within, limits}
+use Rattle.lv_grammar.specs.Rules.{rules, comma, list, behind, before, first_and_others}
 use Rattle.lv_parser.specs.Answers.{from, IsRead, Refuses, IsRefused}
 use Rattle.lv_parser.specs.Paths.{Path, Listed, Taken}
-use Rattle.lv_parser.proofs.Settings.{setting}
+use Rattle.lv_grammar.proofs.Settings.{setting}
 
 -- ---- tokens
 

@@ -4,7 +4,7 @@ use Rattle.lv_ast.specs.declared.tokens.Token.{Token}
 use Rattle.lv_ast.specs.declared.expr.Expr.{Expr}
 use Rattle.lv_ast.specs.declared.expr.Path.{Path as ExprPath}
 use Rattle.lv_ast.specs.declared.expr.Select.{Select}
-use Rattle.lv_parser.specs.declared.exprs.Span.TheVariants as span
+use Rattle.lv_grammar.specs.declared.parts.Span.TheVariants as span
 use Rattle.lv_ast.specs.declared.stmt.Ident.{Ident}
 use Rattle.lv_exprs.specs.declared.error.SyntaxError.{SyntaxError}
 use Rattle.lv_exprs.specs.declared.error.SyntaxError.TheVariants as error
@@ -16,14 +16,14 @@ use Rattle.lv_viable.specs.At.{Standing}
 use Rattle.lv_viable.specs.Reading.{Reads, Fails, PassesLimit, Begins}
 use Rattle.lv_viable.proofs.Loops as loops
 use Rattle.lv_viable.proofs.Rounds as rounds
-use Rattle.lv_parser.specs.Lexemes.{Lexeme, head, place_of, ident_of}
-use Rattle.lv_parser.specs.Shapes.{base, table, stands}
-use Rattle.lv_parser.specs.Shapes as shapes
-use Rattle.lv_parser.specs.Leaves.{all, within}
-use Rattle.lv_parser.specs.Rules as rules
+use Rattle.lv_grammar.specs.Lexemes.{Lexeme, head, place_of, ident_of}
+use Rattle.lv_grammar.specs.Shapes.{base, table, stands}
+use Rattle.lv_grammar.specs.Shapes as shapes
+use Rattle.lv_grammar.specs.Leaves.{all, within}
+use Rattle.lv_grammar.specs.Rules as rules
 use Rattle.lv_parser.specs.Answers.{from, IsRead, Refuses, IsRefused, Answer}
 use Rattle.lv_parser.specs.Paths.{Path, Counted}
-use Rattle.lv_parser.proofs.Settings.{setting}
+use Rattle.lv_grammar.proofs.Settings.{setting}
 use Rattle.lv_parser.proofs.Paths.{begin, through, last, to_left, to_right, opens, other, absent, token_read}
 
 -- ---- the end of a select

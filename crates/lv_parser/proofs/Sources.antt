@@ -18,14 +18,14 @@ use Rattle.lv_viable.proofs.Good.{fails_outside, outside_nothing}
 use Rattle.lv_viable.proofs.Loops as loops
 use Rattle.lv_viable.proofs.Rounds as rounds
 use Rattle.lv_viable.proofs.Ways as ways
-use Rattle.lv_parser.specs.Lexemes.{Lexeme, lexeme, lexemes}
-use Rattle.lv_parser.specs.Shapes.{base, table, stands}
-use Rattle.lv_parser.specs.Shapes as shapes
-use Rattle.lv_parser.specs.Leaves.{all, low, limits}
-use Rattle.lv_parser.specs.Rules.{module_rule, source_rule, source_of}
+use Rattle.lv_grammar.specs.Lexemes.{Lexeme, lexeme, lexemes}
+use Rattle.lv_grammar.specs.Shapes.{base, table, stands}
+use Rattle.lv_grammar.specs.Shapes as shapes
+use Rattle.lv_grammar.specs.Leaves.{all, low, limits}
+use Rattle.lv_grammar.specs.Rules.{module_rule, source_rule, source_of}
 use Rattle.lv_parser.specs.Answers.{from, front, IsRead, Refuses, IsRefused, IsSource, IsWrong, IsDeep, RefusesSource}
 use Rattle.lv_parser.specs.Sources.{Sourced}
-use Rattle.lv_parser.proofs.Settings.{setting}
+use Rattle.lv_grammar.proofs.Settings.{setting}
 use Rattle.lv_parser.proofs.Paths.{begin, through, then, refuse, opens, absent}
 
 -- ---- lists cut at a number

@@ -17,14 +17,14 @@ use Rattle.lv_viable.specs.Nexts.{Outside, Opens}
 use Rattle.lv_viable.proofs.Good as good
 use Rattle.lv_viable.proofs.Ways as ways
 use Rattle.lv_viable.proofs.Lists.{true_false, and_left, and_right}
-use Rattle.lv_parser.specs.Lexemes.{Lexeme, head, place_of}
-use Rattle.lv_parser.specs.Shapes.{Shape, Rule, base, table, stands, rule_leads}
-use Rattle.lv_parser.specs.Shapes as shapes
-use Rattle.lv_parser.specs.Leaves.{all, within, limits}
-use Rattle.lv_parser.specs.Rules as rules
+use Rattle.lv_grammar.specs.Lexemes.{Lexeme, head, place_of}
+use Rattle.lv_grammar.specs.Shapes.{Shape, Rule, base, table, stands, rule_leads}
+use Rattle.lv_grammar.specs.Shapes as shapes
+use Rattle.lv_grammar.specs.Leaves.{all, within, limits}
+use Rattle.lv_grammar.specs.Rules as rules
 use Rattle.lv_parser.specs.Answers.{from, leads, placed, IsRead, Refuses, IsRefused, Answer, AnswersStmts}
 use Rattle.lv_parser.specs.Paths.{Path, Taken}
-use Rattle.lv_parser.proofs.Settings.{setting}
+use Rattle.lv_grammar.proofs.Settings.{setting}
 use Rattle.lv_parser.proofs.Paths.{next_of, lacks_of, begin, through, then, last, refuse, refuse_last, to_left, to_right, opens, other, absent, taken, take_more, take_stops, take_ends}
 use Rattle.lv_parser.proofs.Fronts.{leads_is}
 

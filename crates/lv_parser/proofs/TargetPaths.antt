@@ -9,9 +9,9 @@ use Rattle.lv_exprs.specs.declared.error.SyntaxError.{SyntaxError}
 use Rattle.lv_exprs.specs.declared.error.SyntaxError.TheVariants as error
 use Rattle.lv_viable.specs.Grammar.{Gram, call, act}
 use Rattle.lv_viable.specs.Spelling.{Limit, most, allows, lowered, inside}
-use Rattle.lv_parser.specs.Shapes.{Placed, base, stands}
-use Rattle.lv_parser.specs.Shapes as shapes
-use Rattle.lv_parser.specs.Rules as rules
+use Rattle.lv_grammar.specs.Shapes.{Placed, base, stands}
+use Rattle.lv_grammar.specs.Shapes as shapes
+use Rattle.lv_grammar.specs.Rules as rules
 use Rattle.lv_parser.specs.Answers.{from, leads, placed, placed_result, IsRead, IsRefused, Answer, AnswersTargets}
 use Rattle.lv_parser.specs.Paths.{Path}
 use Rattle.lv_parser.proofs.Paths.{begin, through, last, refuse_last, to_left, to_right, other, absent}

@@ -8,10 +8,10 @@ use Rattle.lv_viable.specs.Grammar.{Gram}
 use Rattle.lv_viable.specs.Spelling.{Limit, most, IsSpelled}
 use Rattle.lv_viable.specs.Sets.{is_in}
 use Rattle.lv_viable.specs.Reading.{Begins, Reads, Fails, PassesLimit}
-use Rattle.lv_parser.specs.Lexemes.{Lexeme, lexemes, head, place_of}
-use Rattle.lv_parser.specs.Shapes.{Placed, Rule, base, table}
-use Rattle.lv_parser.specs.Leaves.{all, within, low}
-use Rattle.lv_parser.specs.Rules.{source_rule}
+use Rattle.lv_grammar.specs.Lexemes.{Lexeme, lexemes, head, place_of}
+use Rattle.lv_grammar.specs.Shapes.{Placed, Rule, base, table}
+use Rattle.lv_grammar.specs.Leaves.{all, within, low}
+use Rattle.lv_grammar.specs.Rules.{source_rule}
 
 -- the tokens from a number on
 abbrev pub from : List ℕ → List Token → ℕ → List Lexeme
@@ -107,10 +107,3 @@ abbrev pub RefusesSource : List ℕ → List Token → SyntaxError → Type 0
 RefusesSource text tokens error.NoMemory = Unit {0}
 RefusesSource text tokens (error.Syntax k) = IsWrong text tokens k
 RefusesSource text tokens (error.Depth k) = IsDeep text tokens k
-
--- ---- laws
-
--- each list of tokens spells at most one source
-abbrev pub HasOneTree : Type 0
-HasOneTree =
-    (text : List ℕ) (ts : List Lexeme) (o p : Bool) (x y : Source) → IsSpelled base (all text) source_rule ts o x → IsSpelled base (all text) source_rule ts p y → x ≡ y

@@ -4,10 +4,10 @@ use Rattle.lv_ast.specs.declared.tokens.Token.{Token}
 use Rattle.lv_viable.specs.Grammar.{Gram, both, many, perhaps}
 use Rattle.lv_viable.specs.Spelling.{Limit}
 use Rattle.lv_viable.specs.At.{Standing}
-use Rattle.lv_parser.specs.Lexemes.{Lexeme}
-use Rattle.lv_parser.specs.Shapes.{base}
-use Rattle.lv_parser.specs.Leaves.{all, within}
-use Rattle.lv_parser.specs.Rules.{comma, grouped, groups, all_groups}
+use Rattle.lv_grammar.specs.Lexemes.{Lexeme}
+use Rattle.lv_grammar.specs.Shapes.{base}
+use Rattle.lv_grammar.specs.Leaves.{all, within}
+use Rattle.lv_grammar.specs.Rules.{comma, grouped, groups, all_groups}
 use Rattle.lv_parser.specs.Answers.{from}
 use Rattle.lv_parser.specs.Paths.{Path}
 

@@ -1,9 +1,5 @@
 pub mod Answers
 pub mod Grouping
-pub mod Leaves
-pub mod Lexemes
 pub mod Paths
-pub mod Rules
-pub mod Shapes
 pub mod Sources
 pub mod Steps

@@ -4,10 +4,10 @@ use Rattle.lv_ast.specs.declared.tokens.Token.{Token}
 use Rattle.lv_viable.specs.Grammar.{Gram, both, many, one}
 use Rattle.lv_viable.specs.Spelling.{Limit}
 use Rattle.lv_viable.specs.At.{Way, Standing, StandingUntil}
-use Rattle.lv_parser.specs.Lexemes.{Lexeme}
-use Rattle.lv_parser.specs.Shapes.{Shape, base, table}
-use Rattle.lv_parser.specs.Leaves.{all, within}
-use Rattle.lv_parser.specs.Rules.{comma, list, first_and_others}
+use Rattle.lv_grammar.specs.Lexemes.{Lexeme}
+use Rattle.lv_grammar.specs.Shapes.{Shape, base, table}
+use Rattle.lv_grammar.specs.Leaves.{all, within}
+use Rattle.lv_grammar.specs.Rules.{comma, list, first_and_others}
 use Rattle.lv_parser.specs.Answers.{from}
 
 -- from token `at` on, of the grammar g, the reader stands at token `us`, where h is left; a tree y of it makes `build y`

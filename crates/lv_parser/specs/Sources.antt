@@ -4,9 +4,9 @@ use Rattle.lv_ast.specs.declared.tokens.Token.{Token}
 use Rattle.lv_ast.specs.declared.item.Module.{Module}
 use Rattle.lv_viable.specs.Grammar.{many}
 use Rattle.lv_viable.specs.At.{Standing}
-use Rattle.lv_parser.specs.Shapes.{base}
-use Rattle.lv_parser.specs.Leaves.{all, low, limits}
-use Rattle.lv_parser.specs.Rules.{module_rule, source_rule, source_of}
+use Rattle.lv_grammar.specs.Shapes.{base}
+use Rattle.lv_grammar.specs.Leaves.{all, low, limits}
+use Rattle.lv_grammar.specs.Rules.{module_rule, source_rule, source_of}
 use Rattle.lv_parser.specs.Answers.{from}
 use Rattle.lv_parser.specs.Paths.{Path}
 

@@ -4,7 +4,7 @@ use Rattle.lv_ast.specs.declared.stmt.Ident.{Ident}
 use Rattle.lv_ast.specs.declared.item.Setting.{Setting}
 use Rattle.lv_ast.specs.declared.item.Params.{Params}
 use Rattle.lv_ast.specs.declared.item.Aport.{Aport}
-use Rattle.lv_parser.specs.Rules.{Header, PortHeader}
+use Rattle.lv_grammar.specs.Rules.{Header, PortHeader}
 
 -- a group is whole where the next entry has a header
 abbrev pub closed : {P H : Type 0} → P → Option H → List P

@@ -1,16 +1,80 @@
 //! Instances and their connections (IEEE 1364-2005, annex A.4.1).
 
-ghost use Rattle.std.specs.Prelude.{◌≤◌, length, IfOk};
-ghost use Rattle.lv_parser.specs.Rules as rules;
+ghost use Rattle.std.specs.Prelude.{◌≤◌, length, IfOk, refl};
+ghost use Rattle.lv_grammar.specs.Rules as rules;
 ghost use Rattle.lv_parser.specs.Answers.{Answers, GoesOn, Stays};
 
 use crate::exprs::value;
-use crate::tokens::{ident, is_mark, mark, place, push};
+use crate::lists::{Entries, list};
+use crate::tokens::{ident, is_mark, mark, place};
 use lv_ast::{Conn, Expr, Inst, Item, Tokens};
 use lv_exprs::SyntaxError;
 use lv_held::Held;
 use sqlite_items::Items;
 use std::alloc::Global;
+
+/// Connections without names.
+#[derive(Clone, Copy)]
+struct OrderedConns;
+
+impl Entries for OrderedConns {
+    type Entry = Conn;
+
+    ghost grammar = { λ x. rules.ordered_conn };
+
+    ghost good = { λ x. refl };
+
+    fn entry(
+        &self,
+        alloc: Global,
+        tokens: &Tokens,
+        at: usize,
+    ) -> Result<(Conn, usize), SyntaxError> {
+        ordered_conn(alloc, tokens, at)
+    }
+}
+
+/// Connections with names.
+#[derive(Clone, Copy)]
+struct NamedConns;
+
+impl Entries for NamedConns {
+    type Entry = Conn;
+
+    ghost grammar = { λ x. rules.named_conn };
+
+    ghost good = { λ x. refl };
+
+    fn entry(
+        &self,
+        alloc: Global,
+        tokens: &Tokens,
+        at: usize,
+    ) -> Result<(Conn, usize), SyntaxError> {
+        named_conn(alloc, tokens, at)
+    }
+}
+
+/// Instances.
+#[derive(Clone, Copy)]
+struct Insts;
+
+impl Entries for Insts {
+    type Entry = Inst;
+
+    ghost grammar = { λ x. rules.inst };
+
+    ghost good = { λ x. refl };
+
+    fn entry(
+        &self,
+        alloc: Global,
+        tokens: &Tokens,
+        at: usize,
+    ) -> Result<(Inst, usize), SyntaxError> {
+        inst(alloc, tokens, at)
+    }
+}
 
 fn ordered_conn(alloc: Global, tokens: &Tokens, at: usize) -> Result<(Conn, usize), SyntaxError>
     requires { at ≤ length tokens.now.list }
@@ -62,46 +126,6 @@ fn named_conn(alloc: Global, tokens: &Tokens, at: usize) -> Result<(Conn, usize)
     Ok((conn, end))
 }
 
-fn ordered_conns(
-    alloc: Global,
-    tokens: &Tokens,
-    at: usize,
-) -> Result<(Items<Conn>, usize), SyntaxError>
-    requires { at ≤ length tokens.now.list }
-    ensures answer { Answers tokens.now.text tokens.now.list (rules.list rules.ordered_conn) at result }
-    ensures ahead { IfOk result (λ r. GoesOn tokens.now.list at r) }
-{
-    let (first, mut end) = ordered_conn(alloc, tokens, at)?;
-    let mut list = Items::new(alloc);
-    push(&mut list, first)?;
-    'entries: while is_mark(tokens, end, b",") {
-        let (more, next) = ordered_conn(alloc, tokens, end + 1)?;
-        push(&mut list, more)?;
-        end = next;
-    }
-    Ok((list, end))
-}
-
-fn named_conns(
-    alloc: Global,
-    tokens: &Tokens,
-    at: usize,
-) -> Result<(Items<Conn>, usize), SyntaxError>
-    requires { at ≤ length tokens.now.list }
-    ensures answer { Answers tokens.now.text tokens.now.list (rules.list rules.named_conn) at result }
-    ensures ahead { IfOk result (λ r. GoesOn tokens.now.list at r) }
-{
-    let (first, mut end) = named_conn(alloc, tokens, at)?;
-    let mut list = Items::new(alloc);
-    push(&mut list, first)?;
-    'entries: while is_mark(tokens, end, b",") {
-        let (more, next) = named_conn(alloc, tokens, end + 1)?;
-        push(&mut list, more)?;
-        end = next;
-    }
-    Ok((list, end))
-}
-
 /// Connections, all ordered or all named.
 fn conns(alloc: Global, tokens: &Tokens, at: usize) -> Result<(Items<Conn>, usize), SyntaxError>
     requires { at ≤ length tokens.now.list }
@@ -109,9 +133,9 @@ fn conns(alloc: Global, tokens: &Tokens, at: usize) -> Result<(Items<Conn>, usiz
     ensures ahead { IfOk result (λ r. GoesOn tokens.now.list at r) }
 {
     if is_mark(tokens, at, b".") {
-        named_conns(alloc, tokens, at)
+        list(alloc, tokens, at, &NamedConns)
     } else {
-        ordered_conns(alloc, tokens, at)
+        list(alloc, tokens, at, &OrderedConns)
     }
 }
 
@@ -143,22 +167,6 @@ fn inst(alloc: Global, tokens: &Tokens, at: usize) -> Result<(Inst, usize), Synt
     let inner = mark(tokens, open, b"(")?;
     let (conns, end) = conns_to_end(alloc, tokens, inner)?;
     Ok((Inst { name, conns }, end))
-}
-
-fn insts(alloc: Global, tokens: &Tokens, at: usize) -> Result<(Items<Inst>, usize), SyntaxError>
-    requires { at ≤ length tokens.now.list }
-    ensures answer { Answers tokens.now.text tokens.now.list (rules.list rules.inst) at result }
-    ensures ahead { IfOk result (λ r. GoesOn tokens.now.list at r) }
-{
-    let (first, mut end) = inst(alloc, tokens, at)?;
-    let mut list = Items::new(alloc);
-    push(&mut list, first)?;
-    'entries: while is_mark(tokens, end, b",") {
-        let (more, next) = inst(alloc, tokens, end + 1)?;
-        push(&mut list, more)?;
-        end = next;
-    }
-    Ok((list, end))
 }
 
 fn settings(alloc: Global, tokens: &Tokens, at: usize) -> Result<(Items<Conn>, usize), SyntaxError>
@@ -193,7 +201,7 @@ pub fn instance(alloc: Global, tokens: &Tokens, at: usize) -> Result<(Item, usiz
 {
     let (module, hash) = ident(alloc, tokens, at)?;
     let (params, first) = overrides(alloc, tokens, hash)?;
-    let (list, semicolon) = insts(alloc, tokens, first)?;
+    let (list, semicolon) = list(alloc, tokens, first, &Insts)?;
     let end = mark(tokens, semicolon, b";")?;
     Ok((Item::Instance(module, params, list), end))
 }

@@ -1,17 +1,101 @@
 //! Declarations (IEEE 1364-2005, annexes A.1.3 and A.2).
 
-ghost use Rattle.std.specs.Prelude.{◌≡◌, ◌≤◌, length, IfOk, codes, ◌||◌};
-ghost use Rattle.lv_parser.specs.Shapes.{stands};
-ghost use Rattle.lv_parser.specs.Shapes as shapes;
-ghost use Rattle.lv_parser.specs.Rules as rules;
+ghost use Rattle.std.specs.Prelude.{◌≡◌, ◌≤◌, length, IfOk, codes, ◌||◌, refl};
+ghost use Rattle.lv_grammar.specs.Shapes.{stands};
+ghost use Rattle.lv_grammar.specs.Shapes as shapes;
+ghost use Rattle.lv_grammar.specs.Rules as rules;
 ghost use Rattle.lv_parser.specs.Answers.{from, Answers, GoesOn, Stays};
 
 use crate::exprs::{range, range_if, value};
-use crate::tokens::{ident, is_mark, is_word, mark, push, word};
+use crate::lists::{Entries, list};
+use crate::tokens::{ident, is_mark, is_word, mark, word};
 use lv_ast::{Aport, Ident, Item, NetName, Params, PortWord, Range, RegName, Setting, Tokens};
 use lv_exprs::SyntaxError;
-use sqlite_items::Items;
 use std::alloc::Global;
+
+/// Names.
+#[derive(Clone, Copy)]
+pub struct Names;
+
+impl Entries for Names {
+    type Entry = Ident;
+
+    ghost grammar = { λ x. rules.ident };
+
+    ghost good = { λ x. refl };
+
+    fn entry(
+        &self,
+        alloc: Global,
+        tokens: &Tokens,
+        at: usize,
+    ) -> Result<(Ident, usize), SyntaxError> {
+        ident(alloc, tokens, at)
+    }
+}
+
+/// Parameters with their values.
+#[derive(Clone, Copy)]
+pub struct Settings;
+
+impl Entries for Settings {
+    type Entry = Setting;
+
+    ghost grammar = { λ x. rules.setting };
+
+    ghost good = { λ x. refl };
+
+    fn entry(
+        &self,
+        alloc: Global,
+        tokens: &Tokens,
+        at: usize,
+    ) -> Result<(Setting, usize), SyntaxError> {
+        setting(alloc, tokens, at)
+    }
+}
+
+/// Nets.
+#[derive(Clone, Copy)]
+pub struct NetNames;
+
+impl Entries for NetNames {
+    type Entry = NetName;
+
+    ghost grammar = { λ x. rules.net_name };
+
+    ghost good = { λ x. refl };
+
+    fn entry(
+        &self,
+        alloc: Global,
+        tokens: &Tokens,
+        at: usize,
+    ) -> Result<(NetName, usize), SyntaxError> {
+        net_name(alloc, tokens, at)
+    }
+}
+
+/// Variables.
+#[derive(Clone, Copy)]
+pub struct RegNames;
+
+impl Entries for RegNames {
+    type Entry = RegName;
+
+    ghost grammar = { λ x. rules.reg_name };
+
+    ghost good = { λ x. refl };
+
+    fn entry(
+        &self,
+        alloc: Global,
+        tokens: &Tokens,
+        at: usize,
+    ) -> Result<(RegName, usize), SyntaxError> {
+        reg_name(alloc, tokens, at)
+    }
+}
 
 /// Whether the keyword `signed` stands there.
 fn signed(tokens: &Tokens, at: usize) -> Result<(bool, usize), SyntaxError>
@@ -41,27 +125,6 @@ pub fn header(
     Ok(((signed, range), end))
 }
 
-/// Names with commas between them.
-pub fn idents(
-    alloc: Global,
-    tokens: &Tokens,
-    at: usize,
-) -> Result<(Items<Ident>, usize), SyntaxError>
-    requires { at ≤ length tokens.now.list }
-    ensures answer { Answers tokens.now.text tokens.now.list (rules.list rules.ident) at result }
-    ensures ahead { IfOk result (λ r. GoesOn tokens.now.list at r) }
-{
-    let (first, mut end) = ident(alloc, tokens, at)?;
-    let mut list = Items::new(alloc);
-    push(&mut list, first)?;
-    'entries: while is_mark(tokens, end, b",") {
-        let (name, next) = ident(alloc, tokens, end + 1)?;
-        push(&mut list, name)?;
-        end = next;
-    }
-    Ok((list, end))
-}
-
 pub fn setting(alloc: Global, tokens: &Tokens, at: usize) -> Result<(Setting, usize), SyntaxError>
     requires { at ≤ length tokens.now.list }
     ensures answer { Answers tokens.now.text tokens.now.list rules.setting at result }
@@ -73,33 +136,13 @@ pub fn setting(alloc: Global, tokens: &Tokens, at: usize) -> Result<(Setting, us
     Ok((Setting { name, value }, end))
 }
 
-fn settings(
-    alloc: Global,
-    tokens: &Tokens,
-    at: usize,
-) -> Result<(Items<Setting>, usize), SyntaxError>
-    requires { at ≤ length tokens.now.list }
-    ensures answer { Answers tokens.now.text tokens.now.list (rules.list rules.setting) at result }
-    ensures ahead { IfOk result (λ r. GoesOn tokens.now.list at r) }
-{
-    let (first, mut end) = setting(alloc, tokens, at)?;
-    let mut list = Items::new(alloc);
-    push(&mut list, first)?;
-    'entries: while is_mark(tokens, end, b",") {
-        let (more, next) = setting(alloc, tokens, end + 1)?;
-        push(&mut list, more)?;
-        end = next;
-    }
-    Ok((list, end))
-}
-
 fn params(alloc: Global, tokens: &Tokens, at: usize) -> Result<(Params, usize), SyntaxError>
     requires { at ≤ length tokens.now.list }
     ensures answer { Answers tokens.now.text tokens.now.list rules.params at result }
     ensures ahead { IfOk result (λ r. GoesOn tokens.now.list at r) }
 {
     let ((signed, range), names) = header(alloc, tokens, at)?;
-    let (list, end) = settings(alloc, tokens, names)?;
+    let (list, end) = list(alloc, tokens, names, &Settings)?;
     Ok((
         Params {
             signed,
@@ -178,7 +221,7 @@ pub fn port(alloc: Global, tokens: &Tokens, at: usize) -> Result<(Item, usize), 
     ensures ahead { IfOk result (λ r. GoesOn tokens.now.list at r) }
 {
     let (((output, word), (signed, range)), first) = port_header(alloc, tokens, at)?;
-    let (names, semicolon) = idents(alloc, tokens, first)?;
+    let (names, semicolon) = list(alloc, tokens, first, &Names)?;
     let end = mark(tokens, semicolon, b";")?;
     let port = Aport {
         output,
@@ -210,26 +253,6 @@ fn net_name(alloc: Global, tokens: &Tokens, at: usize) -> Result<(NetName, usize
     }
 }
 
-fn net_names(
-    alloc: Global,
-    tokens: &Tokens,
-    at: usize,
-) -> Result<(Items<NetName>, usize), SyntaxError>
-    requires { at ≤ length tokens.now.list }
-    ensures answer { Answers tokens.now.text tokens.now.list (rules.list rules.net_name) at result }
-    ensures ahead { IfOk result (λ r. GoesOn tokens.now.list at r) }
-{
-    let (first, mut end) = net_name(alloc, tokens, at)?;
-    let mut list = Items::new(alloc);
-    push(&mut list, first)?;
-    'entries: while is_mark(tokens, end, b",") {
-        let (more, next) = net_name(alloc, tokens, end + 1)?;
-        push(&mut list, more)?;
-        end = next;
-    }
-    Ok((list, end))
-}
-
 pub fn wire(alloc: Global, tokens: &Tokens, at: usize) -> Result<(Item, usize), SyntaxError>
     requires { at ≤ length tokens.now.list }
     ensures answer { Answers tokens.now.text tokens.now.list rules.wire at result }
@@ -237,7 +260,7 @@ pub fn wire(alloc: Global, tokens: &Tokens, at: usize) -> Result<(Item, usize), 
 {
     let sign = word(tokens, at, b"wire")?;
     let ((signed, range), first) = header(alloc, tokens, sign)?;
-    let (names, semicolon) = net_names(alloc, tokens, first)?;
+    let (names, semicolon) = list(alloc, tokens, first, &NetNames)?;
     let end = mark(tokens, semicolon, b";")?;
     Ok((Item::Wire(signed, range, names), end))
 }
@@ -252,26 +275,6 @@ fn reg_name(alloc: Global, tokens: &Tokens, at: usize) -> Result<(RegName, usize
     Ok((RegName { name, bounds }, end))
 }
 
-fn reg_names(
-    alloc: Global,
-    tokens: &Tokens,
-    at: usize,
-) -> Result<(Items<RegName>, usize), SyntaxError>
-    requires { at ≤ length tokens.now.list }
-    ensures answer { Answers tokens.now.text tokens.now.list (rules.list rules.reg_name) at result }
-    ensures ahead { IfOk result (λ r. GoesOn tokens.now.list at r) }
-{
-    let (first, mut end) = reg_name(alloc, tokens, at)?;
-    let mut list = Items::new(alloc);
-    push(&mut list, first)?;
-    'entries: while is_mark(tokens, end, b",") {
-        let (more, next) = reg_name(alloc, tokens, end + 1)?;
-        push(&mut list, more)?;
-        end = next;
-    }
-    Ok((list, end))
-}
-
 pub fn reg(alloc: Global, tokens: &Tokens, at: usize) -> Result<(Item, usize), SyntaxError>
     requires { at ≤ length tokens.now.list }
     ensures answer { Answers tokens.now.text tokens.now.list rules.reg at result }
@@ -279,7 +282,7 @@ pub fn reg(alloc: Global, tokens: &Tokens, at: usize) -> Result<(Item, usize), S
 {
     let sign = word(tokens, at, b"reg")?;
     let ((signed, range), first) = header(alloc, tokens, sign)?;
-    let (names, semicolon) = reg_names(alloc, tokens, first)?;
+    let (names, semicolon) = list(alloc, tokens, first, &RegNames)?;
     let end = mark(tokens, semicolon, b";")?;
     Ok((Item::Reg(signed, range, names), end))
 }
@@ -297,7 +300,7 @@ pub fn index(
     ensures ahead { IfOk result (λ r. GoesOn tokens.now.list at r) }
 {
     let first = word(tokens, at, bytes)?;
-    let (names, semicolon) = idents(alloc, tokens, first)?;
+    let (names, semicolon) = list(alloc, tokens, first, &Names)?;
     let end = mark(tokens, semicolon, b";")?;
     Ok((Item::Index(genvar, names), end))
 }

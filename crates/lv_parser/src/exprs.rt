@@ -2,33 +2,21 @@
 
 ghost use Rattle.std.specs.Prelude.{◌≡◌, ◌≤◌, length, IfOk};
 ghost use Rattle.lv_viable.specs.Grammar.{perhaps, many};
-ghost use Rattle.lv_parser.specs.Shapes as shapes;
-ghost use Rattle.lv_parser.specs.Rules as rules;
+ghost use Rattle.lv_grammar.specs.Shapes as shapes;
+ghost use Rattle.lv_grammar.specs.Rules as rules;
 ghost use Rattle.lv_parser.specs.Answers.{Answers, placed_result, GoesOn, Stays};
 
 use crate::tokens::{boxed, held, ident, is_mark, mark, push, unheld};
 use lv_ast::{Expr, Path, Range, Select, Tokens};
 use lv_bits::NoMemory;
 use lv_exprs::{SyntaxError, read_definite, read_expr};
+use lv_grammar::Span;
 use lv_held::Held;
 use sqlite_items::Items;
 use std::alloc::Global;
 
-/// What stands in a select behind its first expression.
-#[derive(Drop)]
-pub enum Span {
-    Bit,
-    Part(Held<Expr>),
-    Up(Held<Expr>),
-    Down(Held<Expr>),
-}
-
 /// An expression that is no literal with free bits.
-pub fn value(
-    alloc: Global,
-    tokens: &Tokens,
-    at: usize,
-) -> Result<(Held<Expr>, usize), SyntaxError>
+pub fn value(alloc: Global, tokens: &Tokens, at: usize) -> Result<(Held<Expr>, usize), SyntaxError>
     requires { at ≤ length tokens.now.list }
     ensures answer { Answers tokens.now.text tokens.now.list rules.value at result }
     ensures placed { Answers tokens.now.text tokens.now.list (rules.expr shapes.value) at (placed_result tokens.now.text tokens.now.list at result) }
@@ -179,10 +167,8 @@ pub fn named(
 {
     let (name, bracket) = ident(alloc, tokens, at)?;
     let (selects, end) = selects(alloc, tokens, bracket)?;
-    let path = Path {
-        steps: Items::new(alloc),
-        name: name.name,
-        place: name.place,
-    };
+    let (name, place) = name.into_parts();
+    let steps = Items::new(alloc);
+    let path = Path { steps, name, place };
     Ok(((path, selects), end))
 }

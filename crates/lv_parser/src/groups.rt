@@ -3,7 +3,7 @@
 
 ghost use Rattle.std.specs.Prelude.{◌≡◌, ◌≤◌, ◌++◌, ◌∷◌, [], length, IfOk};
 ghost use Rattle.lv_viable.specs.Grammar.{perhaps, both};
-ghost use Rattle.lv_parser.specs.Rules as rules;
+ghost use Rattle.lv_grammar.specs.Rules as rules;
 ghost use Rattle.lv_parser.specs.Answers.{Answers, GoesOn};
 ghost use Rattle.lv_parser.specs.Steps.{closed, grown, params_parts, port_parts};
 

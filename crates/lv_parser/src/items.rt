@@ -2,19 +2,20 @@
 
 ghost use Rattle.std.specs.Prelude.{◌≡◌, ◌≤◌, ◌<◌, ◌^◌, ◌||◌, codes, length, IfOk, IsTrue};
 ghost use Rattle.lv_viable.specs.Grammar.{call};
-ghost use Rattle.lv_parser.specs.Shapes.{stands};
-ghost use Rattle.lv_parser.specs.Shapes as shapes;
-ghost use Rattle.lv_parser.specs.Rules as rules;
+ghost use Rattle.lv_grammar.specs.Shapes.{stands};
+ghost use Rattle.lv_grammar.specs.Shapes as shapes;
+ghost use Rattle.lv_grammar.specs.Rules as rules;
 ghost use Rattle.lv_parser.specs.Answers.{from, leads, Answers, AnswersTargets, AnswersStmts, AnswersItems, GoesOn};
 
 use crate::conns::instance;
 use crate::declarations::{index, is_direction, parameter, port, reg, wire};
 use crate::exprs::value;
-use crate::statements::{Head, loop_head, stmt};
+use crate::statements::{loop_head, stmt};
 use crate::targets::{LIMIT, refused, target};
 use crate::tokens::{ident, is_mark, is_name, is_word, mark, place, push, word};
 use lv_ast::{Continuous, Ident, Item, Tokens, Watch};
 use lv_exprs::SyntaxError;
+use lv_grammar::Head;
 use sqlite_items::Items;
 use std::alloc::Global;
 

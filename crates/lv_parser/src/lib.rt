@@ -6,11 +6,10 @@ mod declarations;
 mod exprs;
 mod groups;
 mod items;
-mod laws;
+mod lists;
 mod modules;
 mod statements;
 mod targets;
 mod tokens;
 
-pub use laws::has_one_tree;
 pub use modules::read_source;

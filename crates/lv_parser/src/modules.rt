@@ -1,12 +1,13 @@
 //! Modules, and the whole source (IEEE 1364-2005, annexes A.1.2 and A.1.3).
 
 ghost use Rattle.std.specs.Prelude.{◌≤◌, length, IfOk, MatchResult};
-ghost use Rattle.lv_parser.specs.Rules as rules;
+ghost use Rattle.lv_grammar.specs.Rules as rules;
 ghost use Rattle.lv_parser.specs.Answers.{Answers, AnswersItems, GoesOn, Stays, IsSource, RefusesSource};
 
-use crate::declarations::{idents, is_direction};
+use crate::declarations::{Names, is_direction};
 use crate::groups::{declared_ports, group_list};
 use crate::items::item;
+use crate::lists::list;
 use crate::tokens::{ident, is_mark, is_word, mark, push, word};
 use lv_ast::{Item, Module, Params, Ports, Source, Tokens};
 use lv_exprs::SyntaxError;
@@ -56,7 +57,7 @@ fn port_list(alloc: Global, tokens: &Tokens, at: usize) -> Result<(Ports, usize)
         let (list, end) = declared_ports(alloc, tokens, at)?;
         Ok((Ports::Declared(list), end))
     } else {
-        let (list, end) = idents(alloc, tokens, at)?;
+        let (list, end) = list(alloc, tokens, at, &Names)?;
         Ok((Ports::Names(list), end))
     }
 }

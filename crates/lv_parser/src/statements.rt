@@ -1,32 +1,22 @@
 //! Statements (IEEE 1364-2005, annex A.6).
 
-ghost use Rattle.std.specs.Prelude.{◌≡◌, ◌+◌, ◌<◌, ◌≤◌, ◌||◌, codes, length, IfOk};
-ghost use Rattle.lv_ast.specs.declared.stmt.Stmt.TheVariants as stmt;
+ghost use Rattle.std.specs.Prelude.{◌≡◌, ◌+◌, ◌<◌, ◌≤◌, ◌||◌, codes, length, IfOk, refl};
 ghost use Rattle.lv_viable.specs.Grammar.{call};
-ghost use Rattle.lv_parser.specs.Shapes.{stands};
-ghost use Rattle.lv_parser.specs.Shapes as shapes;
-ghost use Rattle.lv_parser.specs.Rules as rules;
+ghost use Rattle.lv_grammar.specs.Shapes.{stands};
+ghost use Rattle.lv_grammar.specs.Shapes as shapes;
+ghost use Rattle.lv_grammar.specs.Rules as rules;
 ghost use Rattle.lv_parser.specs.Answers.{from, leads, Answers, AnswersTargets, AnswersStmts, AnswersSome, token_result, GoesOn, Stays};
 
 use crate::exprs::{label, value};
+use crate::lists::{Entries, list};
 use crate::targets::{LIMIT, begins_target, refused, target};
 use crate::tokens::{boxed, ident, is_mark, is_word, mark, place, push, word};
 use lv_ast::{Arm, Expr, Ident, Stmt, Tokens};
-use lv_bits::NoMemory;
 use lv_exprs::SyntaxError;
+use lv_grammar::Head;
 use lv_held::Held;
-use sqlite_items::Items;
+use sqlite_items::{Boxed, Items};
 use std::alloc::Global;
-
-/// The head of a loop: its index with the first value, the test, and the index again with the next value.
-#[derive(Drop)]
-pub struct Head {
-    pub index: Ident,
-    pub start: Held<Expr>,
-    pub test: Held<Expr>,
-    pub again: Ident,
-    pub next: Held<Expr>,
-}
 
 fn begins_loop(
     alloc: Global,
@@ -68,6 +58,23 @@ pub fn loop_head(alloc: Global, tokens: &Tokens, at: usize) -> Result<(Head, usi
     Ok((head, end))
 }
 
+/// A statement inside of another.
+#[cycle(statements)]
+fn inner_stmt(
+    alloc: Global,
+    tokens: &Tokens,
+    at: usize,
+    left: u32,
+) -> Result<(Boxed<Stmt>, usize), SyntaxError>
+    requires { at ≤ length tokens.now.list }
+    ensures answer { AnswersStmts left tokens.now.text tokens.now.list (call shapes.stmt) at result }
+    ensures ahead { IfOk result (λ r. GoesOn tokens.now.list at r) }
+{
+    let (body, end) = stmt(alloc, tokens, at, left)?;
+    let inner = boxed(alloc, body)?;
+    Ok((inner, end))
+}
+
 #[cycle(statements)]
 fn turns(alloc: Global, tokens: &Tokens, at: usize, left: u32) -> Result<(Stmt, usize), SyntaxError>
     requires { at ≤ length tokens.now.list }
@@ -75,7 +82,7 @@ fn turns(alloc: Global, tokens: &Tokens, at: usize, left: u32) -> Result<(Stmt, 
     ensures ahead { IfOk result (λ r. GoesOn tokens.now.list at r) }
 {
     let (head, first) = loop_head(alloc, tokens, at)?;
-    let (body, end) = stmt(alloc, tokens, first, left)?;
+    let (body, end) = inner_stmt(alloc, tokens, first, left)?;
     let Head {
         index,
         start,
@@ -83,7 +90,6 @@ fn turns(alloc: Global, tokens: &Tokens, at: usize, left: u32) -> Result<(Stmt, 
         again,
         next,
     } = head;
-    let body = boxed(alloc, body)?;
     Ok((Stmt::Loop(index, start, test, again, next, body), end))
 }
 
@@ -145,27 +151,17 @@ fn branches(
     tokens: &Tokens,
     at: usize,
     left: u32,
-) -> Result<((Stmt, Option<Stmt>), usize), SyntaxError>
+) -> Result<((Boxed<Stmt>, Option<Boxed<Stmt>>), usize), SyntaxError>
     requires { at ≤ length tokens.now.list }
     ensures answer { AnswersStmts left tokens.now.text tokens.now.list rules.branches at result }
     ensures ahead { IfOk result (λ r. GoesOn tokens.now.list at r) }
 {
-    let (then, end) = stmt(alloc, tokens, at, left)?;
+    let (then, end) = inner_stmt(alloc, tokens, at, left)?;
     if is_word(tokens, end, b"else") {
-        let (other, last) = stmt(alloc, tokens, end + 1, left)?;
+        let (other, last) = inner_stmt(alloc, tokens, end + 1, left)?;
         Ok(((then, Some(other)), last))
     } else {
         Ok(((then, None), end))
-    }
-}
-
-fn choice_of(alloc: Global, test: Held<Expr>, then: Stmt, other: Option<Stmt>) -> Result<Stmt, NoMemory>
-    ensures { IfOk result (λ s. s ≡ stmt.If test then other) }
-{
-    let then = boxed(alloc, then)?;
-    match other {
-        Some(other) => Ok(Stmt::If(test, then, Some(boxed(alloc, other)?))),
-        None => Ok(Stmt::If(test, then, None)),
     }
 }
 
@@ -185,30 +181,30 @@ fn choice(
     let (test, close) = value(alloc, tokens, inner)?;
     let first = mark(tokens, close, b")")?;
     let ((then, other), end) = branches(alloc, tokens, first, left)?;
-    let made = choice_of(alloc, test, then, other)?;
-    Ok((made, end))
+    Ok((Stmt::If(test, then, other), end))
 }
 
-/// Labels with commas between them.
-fn labels(
-    alloc: Global,
-    tokens: &Tokens,
-    at: usize,
+/// Labels of a `casez`, where it is one, or of a `case`.
+#[derive(Clone, Copy)]
+struct Labels {
     wild: bool,
-) -> Result<(Items<Expr>, usize), SyntaxError>
-    requires { at ≤ length tokens.now.list }
-    ensures answer { Answers tokens.now.text tokens.now.list (rules.list (rules.label wild)) at result }
-    ensures ahead { IfOk result (λ r. GoesOn tokens.now.list at r) }
-{
-    let (first, mut end) = label(alloc, tokens, at, wild)?;
-    let mut list = Items::new(alloc);
-    push(&mut list, first)?;
-    'entries: while is_mark(tokens, end, b",") {
-        let (more, next) = label(alloc, tokens, end + 1, wild)?;
-        push(&mut list, more)?;
-        end = next;
+}
+
+impl Entries for Labels {
+    type Entry = Expr;
+
+    ghost grammar = { λ x. rules.label x.wild };
+
+    ghost good = { λ x. refl };
+
+    fn entry(
+        &self,
+        alloc: Global,
+        tokens: &Tokens,
+        at: usize,
+    ) -> Result<(Expr, usize), SyntaxError> {
+        label(alloc, tokens, at, self.wild)
     }
-    Ok((list, end))
 }
 
 fn behind_default(tokens: &Tokens, at: usize) -> Result<usize, SyntaxError>
@@ -253,7 +249,7 @@ fn labelled_arm(
     ensures answer { AnswersStmts left tokens.now.text tokens.now.list (rules.labelled_arm wild) at result }
     ensures ahead { IfOk result (λ r. GoesOn tokens.now.list at r) }
 {
-    let (labels, colon) = labels(alloc, tokens, at, wild)?;
+    let (labels, colon) = list(alloc, tokens, at, &Labels { wild })?;
     let first = mark(tokens, colon, b":")?;
     let (body, end) = stmt(alloc, tokens, first, left)?;
     Ok((Arm { labels, body }, end))

@@ -2,8 +2,8 @@
 
 ghost use Rattle.std.specs.Prelude.{◌≡◌, ◌≤◌, length, IfOk, cond};
 ghost use Rattle.lv_viable.specs.Grammar.{call};
-ghost use Rattle.lv_parser.specs.Shapes as shapes;
-ghost use Rattle.lv_parser.specs.Rules as rules;
+ghost use Rattle.lv_grammar.specs.Shapes as shapes;
+ghost use Rattle.lv_grammar.specs.Rules as rules;
 ghost use Rattle.lv_parser.specs.Answers.{from, leads, AnswersTargets, placed_result, GoesOn};
 
 use crate::exprs::named;

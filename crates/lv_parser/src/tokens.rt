@@ -2,10 +2,10 @@
 
 ghost use Rattle.std.specs.Prelude.{◌≡◌, ◌+◌, ◌^◌, ◌<◌, ◌≤◌, ◌++◌, ◌∷◌, [], length, slice_range, slice_get, IfOk, IfSome, IsTrue};
 ghost use Rattle.lv_ast.specs.Tokens.{token_bytes};
-ghost use Rattle.lv_parser.specs.Lexemes.{lexeme, place_of, name_by};
-ghost use Rattle.lv_parser.specs.Shapes.{fits, stands};
-ghost use Rattle.lv_parser.specs.Shapes as shapes;
-ghost use Rattle.lv_parser.specs.Rules as rules;
+ghost use Rattle.lv_grammar.specs.Lexemes.{lexeme, place_of, name_by};
+ghost use Rattle.lv_grammar.specs.Shapes.{fits, stands};
+ghost use Rattle.lv_grammar.specs.Shapes as shapes;
+ghost use Rattle.lv_grammar.specs.Rules as rules;
 ghost use Rattle.lv_parser.specs.Answers.{from, Answers, token_result, GoesOn};
 
 use lv_ast::{Ident, Kind, Token, Tokens};

@@ -15,15 +15,15 @@ use Rattle.lv_ast.specs.declared.item.Ports.TheVariants as ports
 use Rattle.lv_ast.specs.declared.item.Watch.{Watch}
 use Rattle.lv_ast.specs.declared.item.Watch.TheVariants as watch
 use Rattle.lv_ast.specs.declared.item.Conn.{Conn}
-use Rattle.lv_parser.specs.declared.exprs.Span.{Span}
-use Rattle.lv_parser.specs.declared.exprs.Span.TheVariants as span
-use Rattle.lv_parser.specs.declared.statements.Head.{Head}
+use Rattle.lv_grammar.specs.declared.parts.Span.{Span}
+use Rattle.lv_grammar.specs.declared.parts.Span.TheVariants as span
+use Rattle.lv_grammar.specs.declared.parts.Head.{Head}
 use Rattle.lv_viable.specs.Grammar.{Gram, OneOf, left, right, one, leaf, call, act, both, either, perhaps, many, until}
 use Rattle.lv_viable.specs.Spelling.{Leaves, Calls, Spells}
-use Rattle.lv_parser.specs.Lexemes.{Lexeme}
-use Rattle.lv_parser.specs.Shapes.{Placed, base}
-use Rattle.lv_parser.specs.Shapes as shapes
-use Rattle.lv_parser.specs.Rules as rules
+use Rattle.lv_grammar.specs.Lexemes.{Lexeme}
+use Rattle.lv_grammar.specs.Shapes.{Placed, base}
+use Rattle.lv_grammar.specs.Shapes as shapes
+use Rattle.lv_grammar.specs.Rules as rules
 use Rattle.lv_print.specs.Written.{Written, mark, word, name, commas, joined, others}
 use Rattle.lv_print.specs.Expressions.{parens, path_tokens, expr_tokens, select_tokens}
 use Rattle.lv_print.specs.Sources as tokens

@@ -10,9 +10,9 @@ use Rattle.lv_ast.specs.declared.tokens.Kind.TheVariants as k
 use Rattle.lv_ast.specs.declared.tokens.Token.{Token}
 use Rattle.lv_viable.specs.Grammar.{Gram, OneOf, left, right, none, one, call, act, both, either, perhaps, many, until, tail as tailed}
 use Rattle.lv_viable.specs.Spelling.{last_open, SpellsAll, SpellsPerhaps, SpellsTail, Leaves, Calls, Spells}
-use Rattle.lv_parser.specs.Lexemes.{Lexeme, lexeme, lexemes, name_by, ident_of}
-use Rattle.lv_parser.specs.Shapes.{Shape, word, mark, name, Rule, tree_of, base}
-use Rattle.lv_parser.specs.Rules.{comma, colon, list, first_and_others, behind, ident, default_words}
+use Rattle.lv_grammar.specs.Lexemes.{Lexeme, lexeme, lexemes, name_by, ident_of}
+use Rattle.lv_grammar.specs.Shapes.{Shape, word, mark, name, Rule, tree_of, base}
+use Rattle.lv_grammar.specs.Rules.{comma, colon, list, first_and_others, behind, ident, default_words}
 use Rattle.lv_print.specs.Written as w
 use Rattle.lv_print.specs.Written.{Written, others, commas, joined}
 use Rattle.lv_print.specs.Sources.{ident_tokens}
@@ -21,7 +21,7 @@ use Rattle.lv_print.specs.UnplacedSources as unplaced
 use Rattle.lv_print.proofs.Papers.{others-none, others-more, joined-none, joined-more}
 use Rattle.lv_print.proofs.Tokenized.{IsWhole, AreWhole, IsAt, Are}
 use Rattle.lv_print.proofs.Spelled.{whole_mark, whole_name, whole_append, IsWritable, Behind, behind_of, Cut, cut_of}
-use Rattle.lv_parser.specs.Leaves.{symbol_of}
+use Rattle.lv_grammar.specs.Leaves.{symbol_of}
 use Rattle.lv_print.proofs.ExprBack.{Good}
 use Rattle.lv_print.proofs.GoodTokens.{name_writable, escaped_writable}
 

@@ -13,11 +13,11 @@ use Rattle.lv_exprs.specs.Trees as trees
 use Rattle.lv_exprs.proofs.FreeBits.{some_text}
 use Rattle.lv_viable.specs.Grammar.{Gram, leaf, call}
 use Rattle.lv_viable.specs.Spelling.{Calls, Limit, any, inside, Level, called}
-use Rattle.lv_parser.specs.Lexemes.{Lexeme, lexeme, lexemes, place_of}
-use Rattle.lv_parser.specs.Shapes.{Placed, Rule, tree_of, count_of, base}
-use Rattle.lv_parser.specs.Shapes as shapes
-use Rattle.lv_parser.specs.Leaves.{symbol_of, symbols_of, IsExpression, all}
-use Rattle.lv_parser.specs.Rules.{rules, source_rule}
+use Rattle.lv_grammar.specs.Lexemes.{Lexeme, lexeme, lexemes, place_of}
+use Rattle.lv_grammar.specs.Shapes.{Placed, Rule, tree_of, count_of, base}
+use Rattle.lv_grammar.specs.Shapes as shapes
+use Rattle.lv_grammar.specs.Leaves.{symbol_of, symbols_of, IsExpression, all}
+use Rattle.lv_grammar.specs.Rules.{rules, source_rule}
 use Rattle.lv_print.specs.declared.paper.Paper.{Paper}
 use Rattle.lv_print.specs.Paper.{with_tokens, end_gap, empty}
 use Rattle.lv_print.specs.Written.{Written, text_of}

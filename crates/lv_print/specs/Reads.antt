@@ -13,10 +13,10 @@ use Rattle.lv_print.specs.Written.{text_of}
 use Rattle.lv_print.specs.Expressions.{expr_tokens}
 use Rattle.lv_ast.specs.declared.item.Source.{Source}
 use Rattle.lv_viable.specs.Spelling.{IsSpelled}
-use Rattle.lv_parser.specs.Lexemes.{lexemes}
-use Rattle.lv_parser.specs.Shapes.{base}
-use Rattle.lv_parser.specs.Leaves.{all}
-use Rattle.lv_parser.specs.Rules.{source_rule}
+use Rattle.lv_grammar.specs.Lexemes.{lexemes}
+use Rattle.lv_grammar.specs.Shapes.{base}
+use Rattle.lv_grammar.specs.Leaves.{all}
+use Rattle.lv_grammar.specs.Rules.{source_rule}
 use Rattle.lv_print.specs.Sources.{source_tokens}
 use Rattle.lv_print.specs.Unplaced as unplaced
 use Rattle.lv_print.specs.UnplacedSources as unplaced_source

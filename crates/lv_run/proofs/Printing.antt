@@ -18,12 +18,12 @@ use Rattle.lv_lexer.proofs.Unique.{one_token_list}
 use Rattle.lv_viable.specs.Spelling.{IsSpelled}
 use Rattle.lv_viable.proofs.Calls.{is_within}
 use Rattle.lv_viable.proofs.FactsOf.{facts_of}
-use Rattle.lv_parser.specs.Lexemes.{lexemes}
-use Rattle.lv_parser.specs.Shapes.{base, table}
-use Rattle.lv_parser.specs.Leaves.{all, low, limits}
-use Rattle.lv_parser.specs.Rules.{source_rule}
+use Rattle.lv_grammar.specs.Lexemes.{lexemes}
+use Rattle.lv_grammar.specs.Shapes.{base, table}
+use Rattle.lv_grammar.specs.Leaves.{all, low, limits}
+use Rattle.lv_grammar.specs.Rules.{source_rule}
 use Rattle.lv_parser.specs.Answers.{IsSource}
-use Rattle.lv_parser.proofs.Settings.{setting}
+use Rattle.lv_grammar.proofs.Settings.{setting}
 use Rattle.lv_contract.specs.declared.contract.Contract.{Contract}
 use Rattle.lv_contract.specs.declared.key.Key.TheVariants as k
 use Rattle.lv_contract.specs.Values.{texts_at}

@@ -1,6 +1,6 @@
 use Rattle.std.proofs.Common.{refl, sym, ◌∙◌, codes}
-use Rattle.lv_parser.specs.Shapes as shapes
-use Rattle.lv_parser.specs.Rules as rules
+use Rattle.lv_grammar.specs.Shapes as shapes
+use Rattle.lv_grammar.specs.Rules as rules
 use Rattle.lv_viable.specs.Grammar.{either}
 use Rattle.lv_viable.specs.Nexts.{lacks_none, lacks_also}
 use Rattle.lv_viable.proofs.Good.{outside_these}

@@ -1,7 +1,7 @@
 use Rattle.std.proofs.Common.{refl, sym, subst}
 use Rattle.std.specs.Prelude.{IfOk}
-use Rattle.lv_parser.specs.Shapes as shapes
-use Rattle.lv_parser.specs.Rules as rules
+use Rattle.lv_grammar.specs.Shapes as shapes
+use Rattle.lv_grammar.specs.Rules as rules
 use Rattle.lv_parser.specs.Answers.{Answer, GoesOn}
 use Rattle.lv_parser.proofs.Definites.{expr_placed, expr_goes, tree_answer}
 use Rattle.lv_parser.proofs.exprs.label.Goals as goal

@@ -1,7 +1,7 @@
 use Rattle.std.proofs.Common.{refl, sym, ◌∙◌, codes}
 use Rattle.lv_viable.specs.Grammar.{perhaps}
-use Rattle.lv_parser.specs.Shapes as shapes
-use Rattle.lv_parser.specs.Rules as rules
+use Rattle.lv_grammar.specs.Shapes as shapes
+use Rattle.lv_grammar.specs.Rules as rules
 use Rattle.lv_parser.proofs.Paths.{begin, last, refuse_last, to_some, to_none, opens, absent}
 use Rattle.lv_parser.proofs.Fronts.{exit}
 use Rattle.lv_parser.proofs.exprs.range_if.Goals as goal

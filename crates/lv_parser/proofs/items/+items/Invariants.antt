@@ -1,8 +1,8 @@
 use Rattle.std.proofs.Common.{◌≡◌, ℕ, ◌+◌, ◌-◌, ◌*◌, ◌≤◌, length}
 use Rattle.lv_viable.specs.Grammar.{call}
 use Rattle.lv_viable.specs.Spelling.{Limit, most}
-use Rattle.lv_parser.specs.Shapes as shapes
-use Rattle.lv_parser.specs.Rules as rules
+use Rattle.lv_grammar.specs.Shapes as shapes
+use Rattle.lv_grammar.specs.Rules as rules
 use Rattle.lv_parser.specs.Paths.{Taken}
 use Rattle.lv_parser.proofs.items.+items.Given as goal
 

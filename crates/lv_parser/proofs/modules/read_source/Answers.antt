@@ -1,5 +1,5 @@
 use Rattle.std.proofs.Common.{refl, arith}
-use Rattle.lv_parser.specs.Leaves.{limits}
+use Rattle.lv_grammar.specs.Leaves.{limits}
 use Rattle.lv_parser.proofs.Sources.{sourced, first_refused, source_more, source_stops, source_ends, exit_source}
 use Rattle.lv_parser.proofs.modules.read_source.Goals as goal
 

@@ -1,13 +1,18 @@
 use Rattle.std.proofs.Common.{refl, sym, ◌∙◌, ap, arith, codes}
-use Rattle.lv_ast.specs.declared.stmt.Stmt.TheVariants as stmt
 use Rattle.lv_viable.specs.Grammar.{call}
-use Rattle.lv_parser.specs.Shapes as shapes
-use Rattle.lv_parser.specs.Rules as rules
+use Rattle.lv_grammar.specs.Shapes as shapes
+use Rattle.lv_grammar.specs.Rules as rules
 use Rattle.lv_parser.proofs.Paths.{begin, through, then, last, refuse, refuse_last, other, absent, token_read, taken, take_more, take_stops, take_ends}
 use Rattle.lv_parser.proofs.Fronts.{exit}
 use Rattle.lv_parser.proofs.Instead.{instead}
 use Rattle.lv_parser.proofs.StatementPaths.{carried, to_first, to_other, branches_refused, else_next, no_else, stmt_within, stmt_none, empty_first, not_empty, block_first, not_block, choice_first, not_choice, case_first, not_case, casez_first, not_casez, loop_first, not_loop, arms_first, first_refused, arms_more, arms_stop, arms_end}
 use Rattle.lv_parser.proofs.statements.+statements.Goals as goal
+
+pub inner_stmt-returns-in_err-body-clause-answer : goal.inner_stmt-returns-in_err-body-clause-answer
+inner_stmt-returns-in_err-body-clause-answer t c = λ d h k. exit _ c.from_residual.ensures.1 (c.in_err-body.ensures.answer d h k)
+
+pub inner_stmt-returns-clause-answer : goal.inner_stmt-returns-clause-answer
+inner_stmt-returns-clause-answer t c = λ d h k. instead c.in_ok-inner.ensures (c.in_ok-body.ensures.answer d h k)
 
 pub turns-returns-in_err-head-clause-answer : goal.turns-returns-in_err-head-clause-answer
 turns-returns-in_err-head-clause-answer t c = λ d h k.
@@ -24,8 +29,7 @@ pub turns-returns-clause-answer : goal.turns-returns-clause-answer
 turns-returns-clause-answer t c = λ d h k.
     let w0 = through (begin rules.loop c.args.at refl) in
     let w1 = then w0 (c.in_ok-head.ensures.answer d) in
-    let h0 = c.in_ok-head.head in
-    instead (ap (λ b. stmt.Loop h0.index h0.start h0.test h0.again h0.next b) c.in_ok-body-2.ensures) (last w1 (c.in_ok-body.ensures.answer d h k))
+    last w1 (c.in_ok-body.ensures.answer d h k)
 
 pub stmts_to_end-entries-init : goal.stmts_to_end-entries-init
 stmts_to_end-entries-init t c = (λ d h k. taken (call shapes.stmt) (shapes.word (codes "end")) c.args.at c.new-list.ensures, omega arith, c.requires)
@@ -128,7 +132,7 @@ choice-returns-clause-answer t c = λ d h k.
     let w2 = then w1 (c.in_ok-inner.ensures.answer d) in
     let w3 = then w2 (c.in_ok-test.ensures.answer d) in
     let w4 = then w3 (c.in_ok-first.ensures.answer d) in
-    instead c.in_ok-made.ensures (last w4 (c.in_ok-then.ensures.answer d h k))
+    last w4 (c.in_ok-then.ensures.answer d h k)
 
 pub default_arm-returns-in_err-first-clause-answer : goal.default_arm-returns-in_err-first-clause-answer
 default_arm-returns-in_err-first-clause-answer t c = λ d h k.

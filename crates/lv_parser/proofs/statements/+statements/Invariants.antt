@@ -1,7 +1,7 @@
 use Rattle.std.proofs.Common.{◌≡◌, ℕ, ◌+◌, ◌-◌, ◌*◌, ◌≤◌, ◌<◌, length, codes}
 use Rattle.lv_viable.specs.Grammar.{call}
 use Rattle.lv_viable.specs.Spelling.{Limit, most}
-use Rattle.lv_parser.specs.Shapes as shapes
+use Rattle.lv_grammar.specs.Shapes as shapes
 use Rattle.lv_parser.specs.Paths.{Taken}
 use Rattle.lv_parser.proofs.StatementPaths.{Armed}
 use Rattle.lv_parser.proofs.statements.+statements.Given as goal
@@ -9,14 +9,17 @@ use Rattle.lv_parser.proofs.statements.+statements.Given as goal
 abbrev pub decreases-stmt : goal.decreases-stmt
 decreases-stmt l = 6 * l.left
 
+abbrev pub decreases-inner_stmt : goal.decreases-inner_stmt
+decreases-inner_stmt l = 6 * l.left + 1
+
 abbrev pub decreases-turns : goal.decreases-turns
-decreases-turns l = 6 * l.left + 1
+decreases-turns l = 6 * l.left + 2
 
 abbrev pub decreases-stmts_to_end : goal.decreases-stmts_to_end
 decreases-stmts_to_end l = 6 * l.left + 1
 
 abbrev pub decreases-branches : goal.decreases-branches
-decreases-branches l = 6 * l.left + 1
+decreases-branches l = 6 * l.left + 2
 
 abbrev pub decreases-default_arm : goal.decreases-default_arm
 decreases-default_arm l = 6 * l.left + 1
@@ -28,7 +31,7 @@ abbrev pub decreases-block : goal.decreases-block
 decreases-block l = 6 * l.left + 2
 
 abbrev pub decreases-choice : goal.decreases-choice
-decreases-choice l = 6 * l.left + 2
+decreases-choice l = 6 * l.left + 3
 
 abbrev pub decreases-arm : goal.decreases-arm
 decreases-arm l = 6 * l.left + 2

@@ -1,6 +1,6 @@
 use Rattle.std.proofs.Common.{refl, sym, ◌∙◌, codes}
-use Rattle.lv_parser.specs.Shapes as shapes
-use Rattle.lv_parser.specs.Rules as rules
+use Rattle.lv_grammar.specs.Shapes as shapes
+use Rattle.lv_grammar.specs.Rules as rules
 use Rattle.lv_parser.proofs.Paths.{begin, through, last, refuse_last, to_left, to_right, other, absent, token_read}
 use Rattle.lv_parser.proofs.Fronts.{exit}
 use Rattle.lv_parser.proofs.statements.arrow.Goals as goal

@@ -1,5 +1,5 @@
 use Rattle.std.proofs.Common.{sym, subst}
-use Rattle.lv_parser.specs.Rules as rules
+use Rattle.lv_grammar.specs.Rules as rules
 use Rattle.lv_parser.specs.Answers.{Answer, token_result}
 use Rattle.lv_parser.proofs.statements.case_word.Goals as goal
 

@@ -1,6 +1,6 @@
 use Rattle.std.proofs.Common.{◌≡◌, ℕ, ◌+◌, ◌-◌, ◌*◌, ◌≤◌, ◌<◌, length}
 use Rattle.lv_viable.specs.Spelling.{Limit, most}
-use Rattle.lv_parser.specs.Rules as rules
+use Rattle.lv_grammar.specs.Rules as rules
 use Rattle.lv_parser.specs.Paths.{Listed}
 use Rattle.lv_parser.proofs.targets.+targets.Given as goal
 

@@ -1,5 +1,5 @@
 use Rattle.std.proofs.Common.{sym, ◌∙◌}
-use Rattle.lv_parser.specs.Shapes as shapes
+use Rattle.lv_grammar.specs.Shapes as shapes
 use Rattle.lv_parser.proofs.Fronts.{stands_some, stands_none}
 use Rattle.lv_parser.proofs.tokens.is_name.Goals as goal
 

@@ -1,5 +1,5 @@
 use Rattle.std.proofs.Common.{sym, ◌∙◌}
-use Rattle.lv_parser.specs.Shapes as shapes
+use Rattle.lv_grammar.specs.Shapes as shapes
 use Rattle.lv_parser.proofs.Paths.{token_read}
 use Rattle.lv_parser.proofs.Fronts.{token_refused}
 use Rattle.lv_parser.proofs.tokens.word.Goals as goal

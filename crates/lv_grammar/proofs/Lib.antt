@@ -1,0 +1,5 @@
+pub mod Completions
+pub mod Expressions
+pub mod Fits
+pub mod Settings
+pub mod Shaped

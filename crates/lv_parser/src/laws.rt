@@ -1,6 +1,0 @@
-ghost use Rattle.lv_parser.specs.Answers.{HasOneTree};
-
-/// Law: each list of tokens is spelled by at most one source.
-pub fn has_one_tree()
-    ensures { HasOneTree }
-{}

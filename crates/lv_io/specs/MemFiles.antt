@@ -3,6 +3,7 @@ use Rattle.std.specs.Prelude.{◌≡◌, ◌≢◌, ◌<◌, ◌≤◌, ◌⊎�
 use Rattle.std.specs.List.{list_any}
 use Rattle.lv_io.specs.Causes.{risen}
 use Rattle.lv_io.specs.Files.{Files}
+use Rattle.lv_io.specs.Outside.{ShelfState}
 use Rattle.lv_io.specs.declared.mem_shelf.NamedFile.{NamedFile}
 use Rattle.lv_io.specs.declared.mem_shelf.MemShelf.{MemShelf}
 use Rattle.lv_io.specs.declared.shelf.ShelfError.{ShelfError}
@@ -38,6 +39,9 @@ misses_of shelf = shelf.misses
 
 abbrev pub overlong_of : MemShelf → ℕ
 overlong_of shelf = shelf.overlong
+
+abbrev pub state_of : MemShelf → ShelfState
+state_of shelf = record { files = Some (files_of shelf); faults = faults_of shelf; misses = misses_of shelf; overlong = overlong_of shelf }
 
 -- the next call is to fail
 abbrev pub is_listed : MemShelf → Bool

@@ -1,7 +1,8 @@
 -- The sink in memory: its calls and what they answer.
-use Rattle.std.specs.Prelude.{◌≡◌, ◌==◌, ◌||◌, ◌&&◌, ℕ, ◌-◌, min, List, ◌++◌, take, length, Bool, true, false, nat_lt, nat_le, Result, Ok, Err}
+use Rattle.std.specs.Prelude.{◌≡◌, ◌==◌, ◌||◌, ◌&&◌, ℕ, ◌-◌, min, List, ◌++◌, take, length, Bool, true, false, nat_lt, nat_le, Some, Result, Ok, Err}
 use Rattle.std.specs.List.{list_any}
 use Rattle.lv_io.specs.Causes.{risen}
+use Rattle.lv_io.specs.Outside.{SinkState}
 use Rattle.lv_io.specs.declared.mem_sink.MemSink.{MemSink}
 use Rattle.lv_io.specs.declared.sink.Failed.{Failed}
 
@@ -26,6 +27,9 @@ calls_of sink = sink.calls
 
 abbrev pub faults_of : MemSink → ℕ
 faults_of sink = sink.faults
+
+abbrev pub state_of : MemSink → SinkState
+state_of sink = record { given = Some (given_to sink); faults = faults_of sink }
 
 -- the next call is to fail
 abbrev pub is_listed : MemSink → Bool

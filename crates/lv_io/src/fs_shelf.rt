@@ -24,9 +24,7 @@ pub struct FsShelf<R> {
 impl<R: Files> FsShelf<R> {
     /// A shelf with no fault, no miss and no file too long.
     pub fn new(runtime: R) -> FsShelf<R>
-        ensures no_fault { ⟦<FsShelf<R> as Shelf>⟧.faults result ≡ 0 }
-        ensures no_miss { ⟦<FsShelf<R> as Shelf>⟧.misses result ≡ 0 }
-        ensures no_overlong { ⟦<FsShelf<R> as Shelf>⟧.overlong result ≡ 0 }
+        ensures { ⟦<FsShelf<R> as Shelf>⟧.state result ≡ record { files = None; faults = 0; misses = 0; overlong = 0 } }
     {
         FsShelf {
             runtime,
@@ -97,13 +95,7 @@ fn write_file<R: Files>(runtime: &R, name: &[u8], bytes: &[u8]) -> Result<(), Sh
 }
 
 impl<R: Files> Shelf for FsShelf<R> {
-    ghost files = { λ shelf. None };
-
-    ghost faults = { λ shelf. shelf.faults };
-
-    ghost misses = { λ shelf. shelf.misses };
-
-    ghost overlong = { λ shelf. shelf.overlong };
+    ghost state = { λ shelf. record { files = None; faults = shelf.faults; misses = shelf.misses; overlong = shelf.overlong } };
 
     fn read(&mut self, alloc: Global, name: &Text, limit: u64) -> Result<Bytes, ShelfError> {
         let result = read_file(&self.runtime, alloc, name.bytes(), limit);

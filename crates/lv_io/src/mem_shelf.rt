@@ -2,7 +2,7 @@ ghost use Rattle.std.specs.Prelude.{◌≡◌, ◌≢◌, ◌≤◌, ℕ, List, 
 ghost use Rattle.lv_io.specs.declared.shelf.ShelfError.TheVariants.{Missing, Failed, TooLong};
 ghost use Rattle.lv_io.specs.Causes.{Rose, risen};
 ghost use Rattle.lv_io.specs.Files.{HoldsFile, IsAbsent, IsLonger, ChangesOnly, StaysOrHoldsPart};
-ghost use Rattle.lv_io.specs.MemFiles.{StandsAt, lookup, files_of, fails_of, calls_of, faults_of, misses_of, overlong_of, is_listed, Reads, Writes, MovesAt, CountsCall, KeepsCounts};
+ghost use Rattle.lv_io.specs.MemFiles.{StandsAt, lookup, state_of, files_of, fails_of, calls_of, faults_of, misses_of, overlong_of, is_listed, Reads, Writes, MovesAt, CountsCall, KeepsCounts};
 
 use crate::{Shelf, ShelfError};
 use lv_bits::{Bytes, NoMemory, Text};
@@ -104,13 +104,7 @@ impl MemShelf {
 }
 
 impl Shelf for MemShelf {
-    ghost files = { λ shelf. Some (files_of shelf) };
-
-    ghost faults = { faults_of };
-
-    ghost misses = { misses_of };
-
-    ghost overlong = { overlong_of };
+    ghost state = { state_of };
 
     fn read(&mut self, alloc: Global, name: &Text, limit: u64) -> Result<Bytes, ShelfError>
         ensures within { IfOk result (λ bytes. length bytes ≤ limit) }

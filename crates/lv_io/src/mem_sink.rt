@@ -89,11 +89,9 @@ impl MemSink {
 impl Sink for MemSink {
     ghost use Rattle.lv_io.specs.Causes.{Rose};
     ghost use Rattle.lv_io.specs.Given.{Gains};
-    ghost use Rattle.lv_io.specs.MemGiven.{given_to, faults_of, fails_at, WritesBy, CountsCall};
+    ghost use Rattle.lv_io.specs.MemGiven.{state_of, given_to, faults_of, fails_at, WritesBy, CountsCall};
 
-    ghost given = { λ sink. Some (given_to sink) };
-
-    ghost faults = { faults_of };
+    ghost state = { state_of };
 
     fn write(&mut self, piece: &[u8]) -> Result<usize, Failed>
         ensures within { IfOk result (λ count. count ≤ length piece.now) }

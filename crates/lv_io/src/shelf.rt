@@ -1,7 +1,8 @@
-ghost use Rattle.std.specs.Prelude.{◌≡◌, ◌≢◌, ◌≤◌, ℕ, length, Option, IfOk, OnOk, OnErr, IsErrOf};
+ghost use Rattle.std.specs.Prelude.{◌≡◌, ◌≢◌, ◌≤◌, length, IfOk, OnOk, OnErr, IsErrOf};
 ghost use Rattle.lv_io.specs.declared.shelf.ShelfError.TheVariants.{Missing, Failed, TooLong, NoMemory};
 ghost use Rattle.lv_io.specs.Causes.{Rose};
-ghost use Rattle.lv_io.specs.Files.{Files, HoldsFile, IsAbsent, IsLonger, ChangesOnly, StaysOrHoldsPart};
+ghost use Rattle.lv_io.specs.Outside.{ShelfState};
+ghost use Rattle.lv_io.specs.Files.{HoldsFile, IsAbsent, IsLonger, ChangesOnly, StaysOrHoldsPart};
 
 use lv_bits::{Bytes, Text};
 use std::alloc::{AllocError, Global};
@@ -37,47 +38,38 @@ impl From<AllocError> for ShelfError {
 
 /// Named files. A count that stands at its last value, 2^64 - 1, is said to have risen.
 pub trait Shelf {
-    /// The bytes of the file that has a name, where the shelf tells its files.
-    ghost files: { Self → Option Files };
-
-    /// How often the outside failed.
-    ghost faults: { Self → ℕ };
-
-    /// How often a file was missing.
-    ghost misses: { Self → ℕ };
-
-    /// How often a file was too long.
-    ghost overlong: { Self → ℕ };
+    /// What is seen of it: its files, where it tells them, and its counts.
+    ghost state: { Self → ShelfState };
 
     /// The bytes of the file, at most `limit`. `Missing` comes where no file has the name, `TooLong` where the
     /// file has more than `limit` bytes, `Failed` where the outside fails, `NoMemory` where an allocation does.
     fn read(&mut self, alloc: Global, name: &Text, limit: u64) -> Result<Bytes, ShelfError>
         ensures within { IfOk result (λ bytes. length bytes ≤ limit) }
-        ensures found { IfOk result (λ bytes. HoldsFile name.now bytes (files self.old)) }
+        ensures found { IfOk result (λ bytes. HoldsFile name.now bytes (state self.old).files) }
 
-        ensures missing { IsErrOf result Missing → Rose (misses self.old) (misses self.new) }
-        ensures absent { IsErrOf result Missing → IsAbsent name.now (files self.old) }
-        ensures too_long { IsErrOf result TooLong → Rose (overlong self.old) (overlong self.new) }
-        ensures longer { IsErrOf result TooLong → IsLonger name.now limit (files self.old) }
-        ensures failed { IsErrOf result Failed → Rose (faults self.old) (faults self.new) }
+        ensures missing { IsErrOf result Missing → Rose (state self.old).misses (state self.new).misses }
+        ensures absent { IsErrOf result Missing → IsAbsent name.now (state self.old).files }
+        ensures too_long { IsErrOf result TooLong → Rose (state self.old).overlong (state self.new).overlong }
+        ensures longer { IsErrOf result TooLong → IsLonger name.now limit (state self.old).files }
+        ensures failed { IsErrOf result Failed → Rose (state self.old).faults (state self.new).faults }
 
-        ensures files_stay { files self.new ≡ files self.old }
-        ensures faults_stay { faults self.old ≤ faults self.new }
-        ensures misses_stay { misses self.old ≤ misses self.new }
-        ensures overlong_stay { overlong self.old ≤ overlong self.new };
+        ensures files_stay { (state self.new).files ≡ (state self.old).files }
+        ensures faults_stay { (state self.old).faults ≤ (state self.new).faults }
+        ensures misses_stay { (state self.old).misses ≤ (state self.new).misses }
+        ensures overlong_stay { (state self.old).overlong ≤ (state self.new).overlong };
 
     /// Makes the file these bytes. After a refusal, `Failed` or `NoMemory`, it is as before or holds the first of
     /// them.
     fn write(&mut self, alloc: Global, name: &Text, bytes: &[u8]) -> Result<(), ShelfError>
-        ensures written { OnOk result (HoldsFile name.now bytes.now (files self.new)) }
+        ensures written { OnOk result (HoldsFile name.now bytes.now (state self.new).files) }
 
-        ensures failed { IsErrOf result Failed → Rose (faults self.old) (faults self.new) }
+        ensures failed { IsErrOf result Failed → Rose (state self.old).faults (state self.new).faults }
         ensures never_missing { result ≢ Err Missing }
         ensures never_too_long { result ≢ Err TooLong }
-        ensures refused { OnErr result (StaysOrHoldsPart name.now bytes.now (files self.old) (files self.new)) }
+        ensures refused { OnErr result (StaysOrHoldsPart name.now bytes.now (state self.old).files (state self.new).files) }
 
-        ensures others { ChangesOnly name.now (files self.old) (files self.new) }
-        ensures faults_stay { faults self.old ≤ faults self.new }
-        ensures misses_stay { misses self.old ≤ misses self.new }
-        ensures overlong_stay { overlong self.old ≤ overlong self.new };
+        ensures others { ChangesOnly name.now (state self.old).files (state self.new).files }
+        ensures faults_stay { (state self.old).faults ≤ (state self.new).faults }
+        ensures misses_stay { (state self.old).misses ≤ (state self.new).misses }
+        ensures overlong_stay { (state self.old).overlong ≤ (state self.new).overlong };
 }

@@ -14,16 +14,14 @@ pub struct StdSink<R> {
 impl<R: Print> StdSink<R> {
     /// A sink with no fault.
     pub fn new(runtime: R) -> StdSink<R>
-        ensures { ⟦<StdSink<R> as Sink>⟧.faults result ≡ 0 }
+        ensures { ⟦<StdSink<R> as Sink>⟧.state result ≡ record { given = None; faults = 0 } }
     {
         StdSink { runtime, faults: 0 }
     }
 }
 
 impl<R: Print> Sink for StdSink<R> {
-    ghost given = { λ sink. None };
-
-    ghost faults = { λ sink. sink.faults };
+    ghost state = { λ sink. record { given = None; faults = sink.faults } };
 
     fn write(&mut self, piece: &[u8]) -> Result<usize, Failed> {
         match io::writer(&self.runtime).write(piece) {

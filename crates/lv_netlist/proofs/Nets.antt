@@ -11,7 +11,7 @@ use Rattle.lv_netlist.specs.declared.node.Node.{Node}
 use Rattle.lv_netlist.specs.declared.node.Node.TheVariants.{Input, Reg, Const, Un, Bin, Mux, Slice, Cat, Ext}
 use Rattle.lv_netlist.specs.declared.node.Typed.{Typed}
 use Rattle.lv_netlist.specs.declared.node.Register.{Register}
-use Rattle.lv_netlist.specs.Net.{Net, node_at, width_at, input_at, input_name, input_width, register_at, register_name, register_width, register_next, node_width, IsRight, IsInner, IsWidth, IsNew, HasNames, IsNode, IsRegister, IsNet, input_of_typed, register_of_typed, with_node, with_input, with_register, with_next}
+use Rattle.lv_netlist.specs.Net.{Net, width_at, input_name, input_width, register_at, register_name, register_width, node_width, IsRight, IsInner, IsWidth, IsNew, IsNode, IsRegister, IsNet, input_of_typed, register_of_typed, with_node, with_input, with_register, with_next}
 
 abbrev Port : Type 0
 Port = List ℕ × ℕ

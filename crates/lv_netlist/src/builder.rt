@@ -1,20 +1,21 @@
 ghost use Rattle.std.specs.Prelude.{◌≡◌, ℕ, ◌+◌, ◌<◌, ◌≤◌, length, IsSome, IfSome, OnOk, OnErr, IfOk, IsFalse, ◌↔◌};
+ghost use Rattle.std.specs.List.{list_any};
+ghost use Rattle.std.specs.Str.{bytes_eq};
 ghost use Rattle.lv_bits.specs.Values.{result_width};
 ghost use Rattle.lv_netlist.specs.Net.{Net, IsNet, IsRight, IsInner, IsNew, IsWidth, HoldsWord, HasNexts, node_at, width_at, input_name, input_width, register_at, register_name, node_width, register_of, no_nodes, with_node, with_input, with_register, with_next};
 
 use crate::Graph;
 use crate::node::{Node, Register, Typed};
-use indexmap::IndexMap;
 use lv_bits::{NoMemory, Op, Text};
 use std::alloc::Global;
 use std::marker::Model;
 
 /// A graph in the making. Contracts see its nodes, its inputs and its registers.
-#[derive(Drop)]
 pub struct Builder {
     nodes: Vec<Typed>,
-    inputs: IndexMap<Text, u32>,
-    pub(crate) registers: IndexMap<Text, Register>,
+    // Names with widths, in lists and not in a table: no names can be chosen that collide.
+    inputs: Vec<(Text, u32)>,
+    registers: Vec<(Text, Register)>,
 }
 
 impl Model for Builder {
@@ -22,9 +23,29 @@ impl Model for Builder {
 
     ghost Value = { Net };
 
-    ghost view = { λ b. record { nodes = b.nodes.items; inputs = b.inputs.entries; registers = b.registers.entries } };
+    ghost view = { λ b. record { nodes = b.nodes.items; inputs = b.inputs.items; registers = b.registers.items } };
 
-    ghost invariant = { λ b. IsNet (record { nodes = b.nodes.items; inputs = b.inputs.entries; registers = b.registers.entries }) };
+    ghost invariant = { λ b. IsNet (record { nodes = b.nodes.items; inputs = b.inputs.items; registers = b.registers.items }) };
+}
+
+impl Drop for Builder {
+    fn drop(self) {
+        let Builder {
+            nodes,
+            inputs,
+            registers,
+        } = self;
+        drop(nodes);
+        drop(inputs);
+        drop(registers);
+    }
+}
+
+// Whether one of these has the name.
+fn is_named<T>(list: &[(Text, T)], name: &Text) -> bool
+    ensures { result ≡ list_any (λ e. bytes_eq name.now e.0) list.now }
+{
+    list.iter().any(|e| *name == e.0)
 }
 
 impl Builder {
@@ -34,16 +55,16 @@ impl Builder {
     {
         Builder {
             nodes: Vec::new(alloc),
-            inputs: IndexMap::new(alloc),
-            registers: IndexMap::new(alloc),
+            inputs: Vec::new(alloc),
+            registers: Vec::new(alloc),
         }
     }
 
-    /// Whether an input or a register has the name.
+    /// Whether an input or a register has the name. It looks at each name.
     pub fn has(&self, name: &Text) -> bool
         ensures { IsFalse result ↔ IsNew self.now name.now }
     {
-        self.inputs.contains_key(name) || self.registers.contains_key(name)
+        is_named(self.inputs.as_slice(), name) || is_named(self.registers.as_slice(), name)
     }
 
     /// Adds an input of 1 to 128 bits, and gives its node. After `NoMemory` the builder is unchanged.
@@ -55,9 +76,10 @@ impl Builder {
         ensures number { IfOk result (λ at. at ≡ length self.old.nodes) }
     {
         self.nodes.reserve(1)?;
+        self.inputs.reserve(1)?;
         let at = self.nodes.len() as u64;
         let node = Node::Input(self.inputs.len() as u64);
-        self.inputs.insert(name, width)?;
+        self.inputs.push_reserved((name, width));
         self.nodes.push_reserved(Typed { node, width });
         Ok(at)
     }
@@ -71,10 +93,12 @@ impl Builder {
         ensures number { IfOk result (λ at. at ≡ length self.old.nodes) }
     {
         self.nodes.reserve(1)?;
+        self.registers.reserve(1)?;
         let at = self.nodes.len() as u64;
         let node = Node::Reg(self.registers.len() as u64);
         let next = None;
-        self.registers.insert(name, Register { width, next })?;
+        self.registers
+            .push_reserved((name, Register { width, next }));
         self.nodes.push_reserved(Typed { node, width });
         Ok(at)
     }
@@ -151,8 +175,8 @@ impl Builder {
     {
         match self.nodes[register as usize].node {
             Node::Reg(at) => {
-                let register = &mut self.registers[at as usize];
-                register.next = Some(node);
+                let entry = &mut self.registers[at as usize];
+                entry.1.next = Some(node);
             }
             _ => unreachable!(),
         }
@@ -166,7 +190,8 @@ impl Builder {
         Graph::of(self)
     }
 
-    pub(crate) fn len(&self) -> u64
+    /// The number of nodes.
+    pub fn len(&self) -> u64
         ensures is { result ≡ length self.now.nodes }
         ensures net { IsNet self.now }
     {
@@ -197,10 +222,8 @@ impl Builder {
         ensures name { result.0.now ≡ input_name self.now k }
         ensures width { result.1 ≡ input_width self.now k }
     {
-        match self.inputs.get_index(k as usize) {
-            Some((name, width)) => (name, *width),
-            None => unreachable!(),
-        }
+        let entry = &self.inputs[k as usize];
+        (&entry.0, entry.1)
     }
 
     pub(crate) fn register_at(&self, k: u64) -> (&Text, Register)
@@ -208,9 +231,7 @@ impl Builder {
         ensures name { result.0.now ≡ register_name self.now k }
         ensures is { result.1 ≡ (register_at self.now.registers k).1 }
     {
-        match self.registers.get_index(k as usize) {
-            Some((name, register)) => (name, *register),
-            None => unreachable!(),
-        }
+        let entry = &self.registers[k as usize];
+        (&entry.0, entry.1)
     }
 }

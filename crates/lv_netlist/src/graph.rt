@@ -12,15 +12,27 @@ use lv_bits::{Text, Word};
 use std::marker::Model;
 
 /// One word per input of a graph, in order.
-#[derive(Drop)]
 pub struct Inputs {
     pub words: Vec<Word>,
 }
 
+impl Drop for Inputs {
+    fn drop(self) {
+        let Inputs { words } = self;
+        drop(words);
+    }
+}
+
 /// A graph in which each register has its next node. Contracts see its nodes, its inputs and its registers.
-#[derive(Drop)]
 pub struct Graph {
     builder: Builder,
+}
+
+impl Drop for Graph {
+    fn drop(self) {
+        let Graph { builder } = self;
+        drop(builder);
+    }
 }
 
 impl Model for Graph {

@@ -44,6 +44,7 @@ pub mod Settles
 pub mod SettlesA
 pub mod Shaped
 pub mod Summaries
+pub mod Tables
 pub mod Tests
 pub mod Trees
 pub mod Unique

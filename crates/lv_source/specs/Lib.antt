@@ -1,4 +1,5 @@
 pub mod Declarations
+pub mod Drivers
 pub mod Effect
 pub mod Faults
 pub mod Flow

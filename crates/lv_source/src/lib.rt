@@ -5,13 +5,15 @@
 ghost use Rattle.std.specs.Prelude.{◌≡◌, ◌↔◌, ◌<◌, ◌^◌, ℕ, List, Contains, filter};
 ghost use Rattle.std.specs.List.{AllZip};
 ghost use Rattle.lv_ast.specs.Names.{Name};
-ghost use Rattle.lv_source.specs.Names.{Names, Valuation};
+ghost use Rattle.lv_source.specs.Names.{Names, Declared, Valuation};
 ghost use Rattle.lv_source.specs.Parts.{Design, At, scopes_of, signals_of, declared_of, is_signal, registers_of, width_at};
 ghost use Rattle.lv_source.specs.Settled.{IsSettled, Follows, SameOn, SameInputs, IsRun, StartAlike, HasApartSignals};
 ghost use Rattle.lv_source.specs.Legal.{IsLegal, Kind, Refusal, HoldsAt, refusals, places_of};
 ghost use Rattle.lv_source.specs.Flow.{flow, is_latch, is_read_first};
 ghost use Rattle.lv_source.specs.Summary.{summary, leaves_latch, exposes_own};
-ghost use Rattle.lv_source.specs.Views.{AreViewed};
+ghost use Rattle.lv_source.specs.Places.{Bit};
+ghost use Rattle.lv_source.specs.Views.{View, AreViewed};
+ghost use Rattle.lv_source.specs.Drivers.{Drivers, drivers, AreDriven};
 ghost use Rattle.lv_source.specs.Scopes.{Scope, children};
 ghost use Rattle.lv_ast.specs.PlainNames.{HasPlainNames};
 ghost use Rattle.lv_source.specs.Faults.{faults, scope_faults};
@@ -83,4 +85,9 @@ pub fn children_are_scopes()
 /// The signals are those of the declared names that are no clocks, in the same order.
 pub fn signals_are_declared()
     ensures { (d : Design) → signals_of d ≡ filter is_signal (declared_of d) }
+{}
+
+/// The table of drivers tells which bits are driven twice or not at all, the registers and the next value of a bit.
+pub fn drivers_tell()
+    ensures { (ss : List Declared) (vs : List View) (table : Drivers) → ((b : Bit) → table b ≡ drivers vs b) → AreDriven ss vs table }
 {}

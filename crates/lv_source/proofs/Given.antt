@@ -51,7 +51,7 @@ sorted_in x [] h = absurd h
 sorted_in x (d ∷ ds) (inl e) = subst (λ (z : ℕ × Declared). In x (put_by_place z (by_place ds))) (sym e) (in_new x (by_place ds))
 sorted_in x (d ∷ ds) (inr h) = in_old x d (by_place ds) (sorted_in x ds h)
 
-mapped_in : {A B : Type 0} (f : A → B) (x : A) (xs : List A) → In x xs → In (f x) (map f xs)
+pub mapped_in : {A B : Type 0} (f : A → B) (x : A) (xs : List A) → In x xs → In (f x) (map f xs)
 mapped_in f x [] h = absurd h
 mapped_in f x (y ∷ ys) (inl e) = inl (ap f e)
 mapped_in f x (y ∷ ys) (inr h) = inr (mapped_in f x ys h)
@@ -95,7 +95,7 @@ none_kept p (d ∷ ds) h = elim (p d) as (λ c. p d ≡ c → is_nil (cond c (d 
   | false ↦ λ e. none_kept p ds (or-none_right (p d) (list_any p ds) h)
 ] refl
 
-any_in : (p : Declaration → Bool) (d : Declaration) (ds : List Declaration) → In d ds → p d ≡ true → list_any p ds ≡ true
+pub any_in : (p : Declaration → Bool) (d : Declaration) (ds : List Declaration) → In d ds → p d ≡ true → list_any p ds ≡ true
 any_in p d [] h e = absurd h
 any_in p d (x ∷ xs) (inl k) e = or-left (p x) (list_any p xs) (ap p k ∙ e)
 any_in p d (x ∷ xs) (inr h) e = or-right (p x) (list_any p xs) (any_in p d xs h e)

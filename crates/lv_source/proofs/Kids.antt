@@ -83,7 +83,7 @@ instance_one s settings inst None c e h k = absurd h
 instance_one s settings inst (Some m) c e h k =
     sym (instance_if (is_among s.around m.name.name) (instance_scope s settings inst m) c h) ∙ instance_if (is_among s.around m.name.name) (instance_scope s settings inst m) e k
 
-abbrev of_inst : Inst → Declaration
+abbrev pub of_inst : Inst → Declaration
 of_inst n = declare Instance n.name
 
 headed_more : (s : Scope) (xs ys : List Declaration) (c : Scope) → Headed s xs c → Headed s (xs ++ ys) c
@@ -92,7 +92,7 @@ headed_more s xs ys c h = record { from = h.from; among = in-left h.from xs ys h
 headed_after : (s : Scope) (xs ys : List Declaration) (c : Scope) → Headed s ys c → Headed s (xs ++ ys) c
 headed_after s xs ys c h = record { from = h.from; among = in-right h.from xs ys h.among; head = h.head; index = h.index; is_index = h.is_index; path = h.path }
 
-inst_headed : (s : Scope) (settings : List Conn) (inst : Inst) (m : Option Module) (c : Scope) → In c (instance_scopes s settings inst m) → Headed s (of_inst inst ∷ []) c
+pub inst_headed : (s : Scope) (settings : List Conn) (inst : Inst) (m : Option Module) (c : Scope) → In c (instance_scopes s settings inst m) → Headed s (of_inst inst ∷ []) c
 inst_headed s settings inst m c h = record {
   from = of_inst inst;
   among = inl refl;
@@ -102,7 +102,7 @@ inst_headed s settings inst m c h = record {
   path = instance_path s settings inst m c h ∙ ap (below s.path) (no_index (spelled inst.name.name));
 }
 
-abbrev AllPlain : List Declaration → Type 0
+abbrev pub AllPlain : List Declaration → Type 0
 AllPlain ds = (d : Declaration) → In d ds → IsPlain d.name.name
 
 -- equal paths have equal names and indices
@@ -112,20 +112,20 @@ same_head path m n i j p q pm pn a b h k e =
     (ap (λ x. spelled m ++ x) (sym (no_index i)) ∙ (below_same path _ _ (sym h ∙ (e ∙ k)) ∙ ap (λ x. spelled n ++ x) (no_index j))) in (t.0, t.1)
 
 -- two children of one path have no distinct heads
-cross_heads : (s : Scope) (xs ys : List Declaration) (c e : Scope) → Once (xs ++ ys) → AllPlain xs → AllPlain ys → Headed s xs c → Headed s ys e → c.path ≡ e.path → ⊥
+pub cross_heads : (s : Scope) (xs ys : List Declaration) (c e : Scope) → Once (xs ++ ys) → AllPlain xs → AllPlain ys → Headed s xs c → Headed s ys e → c.path ≡ e.path → ⊥
 cross_heads s xs ys c e h p q a b k =
     let t : (a.from.name.name ≡ b.from.name.name) × (a.index ≡ b.index) =
     same_head s.path a.from.name.name b.from.name.name a.index b.index c.path e.path (p a.from a.among) (q b.from b.among) a.is_index b.is_index a.path b.path k in
     once-cross xs ys h a.from b.from a.among b.among t.0 a.head b.head
 
-plain_left : (xs ys : List Declaration) → AllPlain (xs ++ ys) → AllPlain xs
+pub plain_left : (xs ys : List Declaration) → AllPlain (xs ++ ys) → AllPlain xs
 plain_left xs ys h d i = h d (in-left d xs ys i)
 
-plain_right : (xs ys : List Declaration) → AllPlain (xs ++ ys) → AllPlain ys
+pub plain_right : (xs ys : List Declaration) → AllPlain (xs ++ ys) → AllPlain ys
 plain_right xs ys h d i = h d (in-right d xs ys i)
 
 module _ (s : Scope) (settings : List Conn) (m : Option Module) where
-  insts_headed : (insts : List Inst) (c : Scope) → In c (flat_map (λ inst. instance_scopes s settings inst m) insts) → Headed s (map of_inst insts) c
+  pub insts_headed : (insts : List Inst) (c : Scope) → In c (flat_map (λ inst. instance_scopes s settings inst m) insts) → Headed s (map of_inst insts) c
   insts_headed [] c h = absurd h
   insts_headed (x ∷ xs) c h = elim (in-split c (instance_scopes s settings x m) (flat_map (λ inst. instance_scopes s settings inst m) xs) h) [
     | inl k ↦ headed_more s (of_inst x ∷ []) (map of_inst xs) c (inst_headed s settings x m c k)
@@ -167,7 +167,7 @@ turn_small (suc n) names index test next value v small h =
       | inr i ↦ turn_small n names index test next (index_value (with_index names index value) next) v (below_limit _) i
     ]
 
-turns_small : (names : Names) (index : Name) (start test next : Expr) (v : ℕ) → In v (turns names index start test next) → v < 2 ^ 32
+pub turns_small : (names : Names) (index : Name) (start test next : Expr) (v : ℕ) → In v (turns names index start test next) → v < 2 ^ 32
 unfolding turns
 turns_small names index start test next v h = turn_small 1000001 names index test next (index_value names start) v (below_limit _) h
 
@@ -213,21 +213,21 @@ mapped-from f y [] h = absurd h
 mapped-from f y (x ∷ xs) (inl e) = (x, inl refl, e)
 mapped-from f y (x ∷ xs) (inr h) = (let r : (z : _) × In z xs × (f z ≡ y) = mapped-from f y xs h in (r.0, inr r.1, r.2))
 
-index_text : ℕ → List ℕ
+pub index_text : ℕ → List ℕ
 index_text v = 91 ∷ (turn_text v ++ 93 ∷ [])
 
-index_text_is : (v : ℕ) → IsIndex (index_text v)
+pub index_text_is : (v : ℕ) → IsIndex (index_text v)
 unfolding index_text turn_text
 index_text_is v = one (signed_decimal (signed_of 32 v)) (signed_plain (signed_of 32 v))
 
-index_text_same : (v w : ℕ) → v < 2 ^ 32 → w < 2 ^ 32 → index_text v ≡ index_text w → v ≡ w
+pub index_text_same : (v w : ℕ) → v < 2 ^ 32 → w < 2 ^ 32 → index_text v ≡ index_text w → v ≡ w
 unfolding index_text turn_text
 index_text_same v w h k e =
     text_same v w h k (split_index (turn_text v) (turn_text w) [] [] (signed_plain (signed_of 32 v)) (signed_plain (signed_of 32 w))
     (sym (no_index _) ∙ (same_rest 91 91 _ _ e ∙ no_index _))).0
 
 module _ (s : Scope) (before : ℕ) (index label : Ident) (items : List Item) (ks : List ℕ) (small : (v : ℕ) → In v ks → v < 2 ^ 32) where
-  turn_path : (v : ℕ) → (turn_scope s before index label items v).path ≡ below s.path (spelled label.name ++ index_text v)
+  pub turn_path : (v : ℕ) → (turn_scope s before index label items v).path ≡ below s.path (spelled label.name ++ index_text v)
   unfolding index_text turn_text
   turn_path v = ap (below s.path) (indexed (spelled label.name) (signed_decimal (signed_of 32 v)))
 
@@ -248,7 +248,7 @@ module _ (s : Scope) (before : ℕ) (index label : Ident) (items : List Item) (k
 -- ---- items
 
 module _ (source : Source) (s : Scope) where
-  item_headed : (k : ℕ) (x : Item) (c : Scope) → In c (children_by source s (k, x)) → Headed s (of_item x) c
+  pub item_headed : (k : ℕ) (x : Item) (c : Scope) → In c (children_by source s (k, x)) → Headed s (of_item x) c
   item_headed k (i.Instance kind settings insts) c h = insts_headed s settings (module_named source kind.name) insts c h
   item_headed k (i.Loop' index start test again next label n items) c h =
       turns_headed s k index label (spread_all items) (turns s.names index.name start test next) (turns_small s.names index.name start test next) c h
@@ -370,7 +370,7 @@ no_pair_in names listed (a ∷ b ∷ []) d (inr (inl e)) k =
 no_pair_in names listed (a ∷ b ∷ []) d (inr (inr e)) k = absurd e
 no_pair_in names listed (a ∷ b ∷ c ∷ xs) d h k = refl
 
-in_take : (ds : List Declaration) (j k : ℕ) (d : Declaration) → slice_get ds j ≡ Some d → j < k → In d (take k ds)
+pub in_take : (ds : List Declaration) (j k : ℕ) (d : Declaration) → slice_get ds j ≡ Some d → j < k → In d (take k ds)
 in_take [] j k d e h = cc
 in_take (x ∷ xs) j zero d e h = absurd (omega arith)
 in_take (x ∷ xs) zero (suc k) d e h = inl (some_same x d e)

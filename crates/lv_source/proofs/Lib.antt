@@ -1,3 +1,4 @@
+pub mod Apart
 pub mod Blocks
 pub mod Bridges
 pub mod Build
@@ -8,6 +9,7 @@ pub mod Chains
 pub mod DesignA
 pub mod DesignM
 pub mod Determined
+pub mod Distinct
 pub mod Driven
 pub mod Drives
 pub mod Each
@@ -47,6 +49,7 @@ pub mod Summaries
 pub mod Tables
 pub mod Tests
 pub mod Trees
+pub mod Turns
 pub mod Unique
 pub mod ValueRules
 pub mod Within

@@ -93,7 +93,7 @@ split_index (c ∷ m) (b ∷ n) r q h k e =
 
 -- ---- paths
 
-left_same : (xs m n : List ℕ) → xs ++ m ≡ xs ++ n → m ≡ n
+pub left_same : (xs m n : List ℕ) → xs ++ m ≡ xs ++ n → m ≡ n
 left_same [] m n h = h
 left_same (x ∷ xs) m n h = left_same xs m n (same_rest x x (xs ++ m) (xs ++ n) h)
 

@@ -60,12 +60,12 @@ put_if true x d e es (inr k) f = inr k
 put_if false x d e es (inl k) f = inr (inl k)
 put_if false x d e es (inr k) f = elim (f k) [ inl j ↦ inl j | inr j ↦ inr (inr j) ]
 
-in_put : (x d : ℕ × Declared) (ds : List (ℕ × Declared)) → In x (put_by_place d ds) → (d ≡ x) ⊎ In x ds
+pub in_put : (x d : ℕ × Declared) (ds : List (ℕ × Declared)) → In x (put_by_place d ds) → (d ≡ x) ⊎ In x ds
 in_put x d [] (inl e) = inl e
 in_put x d [] (inr h) = absurd h
 in_put x d (e ∷ es) h = put_if (nat_le d.0 e.0) x d e es h (in_put x d es)
 
-in_sorted : (x : ℕ × Declared) (ds : List (ℕ × Declared)) → In x (by_place ds) → In x ds
+pub in_sorted : (x : ℕ × Declared) (ds : List (ℕ × Declared)) → In x (by_place ds) → In x ds
 in_sorted x [] h = absurd h
 in_sorted x (d ∷ ds) h = elim (in_put x d (by_place ds) h) [ inl e ↦ inl e | inr k ↦ inr (in_sorted x ds k) ]
 
@@ -74,7 +74,7 @@ in_numbered kx [] j h = absurd h
 in_numbered kx (x ∷ xs) j (inl e) = inl (ap (λ (z : ℕ × Declaration). z.1) e)
 in_numbered kx (x ∷ xs) j (inr h) = inr (in_numbered kx xs (suc j) h)
 
-in_if : (b : Bool) (d x : ℕ × Declared) → In x (if b then d ∷ [] else []) → (b ≡ true) × (d ≡ x)
+pub in_if : (b : Bool) (d x : ℕ × Declared) → In x (if b then d ∷ [] else []) → (b ≡ true) × (d ≡ x)
 in_if true d x (inl e) = (refl, e)
 in_if true d x (inr e) = absurd e
 in_if false d x h = absurd h
@@ -133,6 +133,18 @@ filter_in n (x ∷ xs) d h = elim (in_cond (bytes_eq x.name.name n) x d (declare
   | inr k ↦ (let r : In d xs × (d.name.name ≡ n) = filter_in n xs d k in (inr r.0, r.1))
 ]
 
+-- a signal that a declaration stands for has its name below the path of the scope
+pub own_path : (s : Scope) → IsShaped s → (d : Declaration) → In d s.declarations → is_signal_sort (known (s.names (alone d.name.name))).sort ≡ true →
+    (known (s.names (alone d.name.name))).path ≡ below s.path (spelled d.name.name)
+own_path s h d among sort =
+    let m : Name = d.name.name in
+    let names : s.names (alone m) ≡ stands_for h.constants s.path h.top (is_among h.clocks m) (alone m) (declared_as m s.declarations) = ap (λ (ns : Names). ns (alone m)) h.names in
+    let path : (known (stands_for h.constants s.path h.top (is_among h.clocks m) (alone m) (declared_as m s.declarations))).path ≡ below s.path (spelled m) =
+    stands_path h.constants s.path m h.top (is_among h.clocks m) (declared_as m s.declarations) (λ e j. (filter_in m s.declarations e j).1)
+    (λ e j p. h.fixed m e (filter_in m s.declarations e j).0 (filter_in m s.declarations e j).1 p) d (named_any m s.declarations d among refl)
+    (ap (λ (o : Option Declared). is_signal_sort (known o).sort) (sym names) ∙ sort) in
+    ap (λ (o : Option Declared). (known o).path) names ∙ path
+
 pub own_signals : (s : Scope) → IsShaped s → (x : Declared) → In x (scope_signals s) → (m : Name) × IsPlain m × (x ≡ known (s.names (alone m))) × (x.path ≡ below s.path (spelled m))
 own_signals s h x i =
     let sorted : List (ℕ × Declared) = by_place (flat_map (stands_here s) (numbered_from 0 s.declarations)) in
@@ -144,12 +156,7 @@ own_signals s h x i =
     let here : (_ ≡ true) × ((d.name.place, known (s.names (alone m))) ≡ px.0) = in_if _ (d.name.place, known (s.names (alone m))) px.0 at.2 in
     let is : (_ ≡ true) × (known (s.names (alone m)) ≡ x) = (here.0, ap (λ (p : ℕ × Declared). p.1) here.1 ∙ px.2) in
     let sort : is_signal_sort (known (s.names (alone m))).sort ≡ true = and-left (is_signal_sort (known (s.names (alone m))).sort) _ is.0 in
-    let names : s.names (alone m) ≡ stands_for h.constants s.path h.top (is_among h.clocks m) (alone m) (declared_as m s.declarations) = ap (λ (ns : Names). ns (alone m)) h.names in
-    let path : (known (stands_for h.constants s.path h.top (is_among h.clocks m) (alone m) (declared_as m s.declarations))).path ≡ below s.path (spelled m) =
-    stands_path h.constants s.path m h.top (is_among h.clocks m) (declared_as m s.declarations) (λ e j. (filter_in m s.declarations e j).1)
-    (λ e j p. h.fixed m e (filter_in m s.declarations e j).0 (filter_in m s.declarations e j).1 p) d (named_any m s.declarations d among refl)
-    (ap (λ (o : Option Declared). is_signal_sort (known o).sort) (sym names) ∙ sort) in
-    (m, h.plain d among, sym is.1, ap (λ (z : Declared). z.path) (sym is.1) ∙ (ap (λ (o : Option Declared). (known o).path) names ∙ path))
+    (m, h.plain d among, sym is.1, ap (λ (z : Declared). z.path) (sym is.1) ∙ own_path s h d among sort)
 
 -- a scope with a shape and no Duplicate is told by its names
 pub told : (source : Source) (s : Scope) → IsShaped s → duplicates s ≡ [] → IsTold source s
@@ -221,7 +228,7 @@ params_fixed os names (x ∷ xs) m d (inr k) e h = params_fixed os (next_names o
 
 -- ---- plain names
 
-all_in : {A : Type 0} (p : A → Bool) (xs : List A) (x : A) → list_all p xs ≡ true → In x xs → p x ≡ true
+pub all_in : {A : Type 0} (p : A → Bool) (xs : List A) (x : A) → list_all p xs ≡ true → In x xs → p x ≡ true
 all_in p [] x h i = absurd i
 all_in p (y ∷ ys) x h (inl e) = ap p (sym e) ∙ and-left (p y) (list_all p ys) h
 all_in p (y ∷ ys) x h (inr i) = all_in p ys x (and-right (p y) (list_all p ys) h) i
@@ -418,7 +425,7 @@ module _ (source : Source) (plain : HasPlainNames source) (s : Scope) where
   pub children_shaped : IsShaped s → (c : Scope) → In c (children source s) → IsShaped c
   children_shaped h c i = children_from s.header s.items c h.items i
 
-all_shaped : (source : Source) → HasPlainNames source → (n : ℕ) (s : Scope) → IsShaped s → (u : Scope) → In u (scopes_within n source s) → IsShaped u
+pub all_shaped : (source : Source) → HasPlainNames source → (n : ℕ) (s : Scope) → IsShaped s → (u : Scope) → In u (scopes_within n source s) → IsShaped u
 all_shaped source plain zero s h u i = absurd i
 all_shaped source plain (suc n) s h u (inl e) = subst IsShaped e h
 all_shaped source plain (suc n) s h u (inr i) =

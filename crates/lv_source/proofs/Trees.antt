@@ -99,7 +99,7 @@ cell_by (Some b) p path m name e h =
     )
 
 -- the name of a cell of a signal, from its scope
-cell_index : (x : Declared) (path m name : Name) → x.path ≡ below path (spelled m) → HasCell x name → (i : List ℕ) × IsIndex i × (name ≡ below path (spelled m ++ (i ++ [])))
+pub cell_index : (x : Declared) (path m name : Name) → x.path ≡ below path (spelled m) → HasCell x name → (i : List ℕ) × IsIndex i × (name ≡ below path (spelled m ++ (i ++ [])))
 cell_index x path m name e h = cell_by x.array x.path path m name e h
 
 -- ---- below a child
@@ -126,7 +126,7 @@ abbrev pub AllTold : ℕ → Source → Scope → Type 0
 AllTold n source s = (u : Scope) → In u (scopes_within n source s) → IsTold source u
 
 module _ (source : Source) where
-  told_child : (n : ℕ) (s c : Scope) → AllTold (suc n) source s → In c (children source s) → AllTold n source c
+  pub told_child : (n : ℕ) (s c : Scope) → AllTold (suc n) source s → In c (children source s) → AllTold n source c
   told_child n s c h i u k = h u (inr (in-flat (scopes_within n source) c u (children source s) i k))
 
   -- the name of each cell in the tree begins with the path of its root
@@ -145,7 +145,7 @@ module _ (source : Source) where
       (spelled kid.0 ++ (kid.1 ++ 46 ∷ rest.0), kid_text s.path c.0.path kid.0 kid.1 rest.0 name kid.4 rest.1)
 
   -- where a cell stands, seen from the root
-  record OwnCell (s : Scope) (x : Declared) (name : Name) : Type 0 where
+  pub record OwnCell (s : Scope) (x : Declared) (name : Name) : Type 0 where
     pub m : Name
     pub i : List ℕ
     pub plain : IsPlain m
@@ -153,7 +153,7 @@ module _ (source : Source) where
     pub is : x ≡ known (s.names (alone m))
     pub text : name ≡ below s.path (spelled m ++ (i ++ []))
 
-  record KidCell (n : ℕ) (s u : Scope) (name : Name) : Type 0 where
+  pub record KidCell (n : ℕ) (s u : Scope) (name : Name) : Type 0 where
     pub child : Scope
     pub among : In child (children source s)
     pub inside : In u (scopes_within n source child)
@@ -165,38 +165,56 @@ module _ (source : Source) where
     pub path : child.path ≡ below s.path (spelled m ++ i)
     pub text : name ≡ below s.path (spelled m ++ (i ++ 46 ∷ w))
 
-  own_cell : (n : ℕ) (s u : Scope) (x : Declared) (name : Name) → AllTold (suc n) source s → s ≡ u → In x (scope_signals u) → HasCell x name → OwnCell s x name
+  pub own_cell : (n : ℕ) (s u : Scope) (x : Declared) (name : Name) → AllTold (suc n) source s → s ≡ u → In x (scope_signals u) → HasCell x name → OwnCell s x name
   own_cell n s u x name h e j k =
       let x' : In x (scope_signals s) = subst (λ (t : Scope). In x (scope_signals t)) (sym e) j in
       let own : (m : Name) × IsPlain m × (x ≡ known (s.names (alone m))) × (x.path ≡ below s.path (spelled m)) = (h s (inl refl)).own x x' in
       let cell : (i : List ℕ) × IsIndex i × (name ≡ below s.path (spelled own.0 ++ (i ++ []))) = cell_index x s.path own.0 name own.3 k in
       record { m = own.0; i = cell.0; plain = own.1; index = cell.1; is = own.2; text = cell.2 }
 
-  kid_cell : (n : ℕ) (s u : Scope) (x : Declared) (name : Name) → AllTold (suc n) source s → In u (flat_map (scopes_within n source) (children source s)) → In x (scope_signals u) → HasCell x name →
+  pub kid_of : (n : ℕ) (s c u : Scope) (x : Declared) (name : Name) → AllTold (suc n) source s → In c (children source s) → In u (scopes_within n source c) → In x (scope_signals u) → HasCell x name →
       KidCell n s u name
-  kid_cell n s u x name h i j k =
-      let c : (c : Scope) × In c (children source s) × In u (scopes_within n source c) = in-from (scopes_within n source) u (children source s) i in
-      let kid : (m : Name) × (i : List ℕ) × IsPlain m × IsIndex i × (c.0.path ≡ below s.path (spelled m ++ i)) = (h s (inl refl)).kids c.0 c.1 in
-      let rest : (w : Name) × (name ≡ below c.0.path w) = under n c.0 u x name (told_child n s c.0 h c.1) c.2 j k in
+  kid_of n s c u x name h i l j k =
+      let kid : (m : Name) × (i : List ℕ) × IsPlain m × IsIndex i × (c.path ≡ below s.path (spelled m ++ i)) = (h s (inl refl)).kids c i in
+      let rest : (w : Name) × (name ≡ below c.path w) = under n c u x name (told_child n s c h i) l j k in
       record {
-        child = c.0;
-        among = c.1;
-        inside = c.2;
+        child = c;
+        among = i;
+        inside = l;
         m = kid.0;
         i = kid.1;
         w = rest.0;
         plain = kid.2;
         index = kid.3;
         path = kid.4;
-        text = kid_text s.path c.0.path kid.0 kid.1 rest.0 name kid.4 rest.1;
+        text = kid_text s.path c.path kid.0 kid.1 rest.0 name kid.4 rest.1;
       }
+
+  pub kid_cell : (n : ℕ) (s u : Scope) (x : Declared) (name : Name) → AllTold (suc n) source s → In u (flat_map (scopes_within n source) (children source s)) → In x (scope_signals u) → HasCell x name →
+      KidCell n s u name
+  kid_cell n s u x name h i j k =
+      let c : (c : Scope) × In c (children source s) × In u (scopes_within n source c) = in-from (scopes_within n source) u (children source s) i in
+      kid_of n s c.0 u x name h c.1 c.2 j k
+
+  -- two names below a scope that are equal stand below children of one path
+  pub same_kid : (n : ℕ) (s u v : Scope) (name : Name) (f : KidCell n s u name) (g : KidCell n s v name) → f.child.path ≡ g.child.path
+  same_kid n s u v name f g =
+      let t : (f.m ≡ g.m) × (f.i ≡ g.i) × (46 ∷ f.w ≡ 46 ∷ g.w) =
+      split_step f.m g.m f.i g.i (46 ∷ f.w) (46 ∷ g.w) f.plain g.plain f.index g.index (more f.w) (more g.w) (below_same s.path _ _ (sym f.text ∙ g.text)) in
+      f.path ∙ (ap (λ m. below s.path (spelled m ++ f.i)) t.0 ∙ (ap (λ i. below s.path (spelled g.m ++ i)) t.1 ∙ sym g.path))
+
+  -- children in which signals share a cell have one path
+  pub one_path : (n : ℕ) (s c e u v : Scope) (x y : Declared) (name : Name) → AllTold (suc n) source s → In c (children source s) → In e (children source s) →
+      In u (scopes_within n source c) → In v (scopes_within n source e) → In x (scope_signals u) → In y (scope_signals v) → HasCell x name → HasCell y name → c.path ≡ e.path
+  unfolding kid_of
+  one_path n s c e u v x y name h i j k l a b f g = same_kid n s u v name (kid_of n s c u x name h i k a f) (kid_of n s e v y name h j l b g)
 
   own_own : (s : Scope) (x y : Declared) (name : Name) → OwnCell s x name → OwnCell s y name → x ≡ y
   own_own s x y name a b =
       let t : (a.m ≡ b.m) × (a.i ≡ b.i) × ([] ≡ []) = split_step a.m b.m a.i b.i [] [] a.plain b.plain a.index b.index ends ends (below_same s.path _ _ (sym a.text ∙ b.text)) in
       a.is ∙ (ap (λ m. known (s.names (alone m))) t.0 ∙ sym b.is)
 
-  own_kid : (n : ℕ) (s v : Scope) (x : Declared) (name : Name) → OwnCell s x name → KidCell n s v name → ⊥
+  pub own_kid : (n : ℕ) (s v : Scope) (x : Declared) (name : Name) → OwnCell s x name → KidCell n s v name → ⊥
   own_kid n s v x name a b =
       let t : (a.m ≡ b.m) × (a.i ≡ b.i) × ([] ≡ 46 ∷ b.w) = split_step a.m b.m a.i b.i [] (46 ∷ b.w) a.plain b.plain a.index b.index ends (more b.w) (below_same s.path _ _ (sym a.text ∙ b.text)) in
       no_list 46 b.w t.2
@@ -210,9 +228,6 @@ module _ (source : Source) where
   tree_apart (suc n) s u v x y name h (inr i) (inr j) a b c e =
       let f : KidCell n s u name = kid_cell n s u x name h i a c in
       let g : KidCell n s v name = kid_cell n s v y name h j b e in
-      let t : (f.m ≡ g.m) × (f.i ≡ g.i) × (46 ∷ f.w ≡ 46 ∷ g.w) =
-      split_step f.m g.m f.i g.i (46 ∷ f.w) (46 ∷ g.w) f.plain g.plain f.index g.index (more f.w) (more g.w) (below_same s.path _ _ (sym f.text ∙ g.text)) in
-      let same : f.child.path ≡ g.child.path =
-      f.path ∙ (ap (λ m. below s.path (spelled m ++ f.i)) t.0 ∙ (ap (λ i. below s.path (spelled g.m ++ i)) t.1 ∙ sym g.path)) in
+      let same : f.child.path ≡ g.child.path = same_kid n s u v name f g in
       let one_child : f.child ≡ g.child = (h s (inl refl)).differ f.child g.child f.among g.among same in
       tree_apart n g.child u v x y name (told_child n s g.child h g.among) (subst (λ (t : Scope). In u (scopes_within n source t)) one_child f.inside) g.inside a b c e

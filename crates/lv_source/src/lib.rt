@@ -2,13 +2,14 @@
 //! refusals, limits and observers, after IEEE 1364-2005. Each function below does nothing: its contract is a law of these definitions.
 #![tactic(auto)]
 
-ghost use Rattle.std.specs.Prelude.{◌≡◌, ◌↔◌, ◌<◌, ◌^◌, ℕ, List, Contains, filter};
-ghost use Rattle.std.specs.List.{AllZip};
+ghost use Rattle.std.specs.Prelude.{◌≡◌, ◌↔◌, ◌<◌, ◌^◌, ℕ, List, ◌++◌, Contains, filter, bytes_eq};
+ghost use Rattle.std.specs.List.{AllZip, IsDistinct};
 ghost use Rattle.lv_ast.specs.Names.{Name};
 ghost use Rattle.lv_source.specs.Names.{Names, Declared, Valuation};
-ghost use Rattle.lv_source.specs.Parts.{Design, At, scopes_of, signals_of, declared_of, is_signal, registers_of, width_at};
+ghost use Rattle.lv_source.specs.Parts.{Design, At, scopes_of, signals_of, declared_of, is_signal, registers_of, inputs_of, width_at};
 ghost use Rattle.lv_source.specs.Settled.{IsSettled, Follows, SameOn, SameInputs, IsRun, StartAlike, HasApartSignals};
 ghost use Rattle.lv_source.specs.Legal.{IsLegal, Kind, Refusal, HoldsAt, refusals, places_of};
+ghost use Rattle.lv_source.specs.Limits.{IsWithinLimits, HasSmallArrays};
 ghost use Rattle.lv_source.specs.Flow.{flow, is_latch, is_read_first};
 ghost use Rattle.lv_source.specs.Summary.{summary, leaves_latch, exposes_own};
 ghost use Rattle.lv_source.specs.Places.{Bit};
@@ -75,6 +76,11 @@ pub fn scope_faults_are_told()
 /// No two signals of a legal source share a cell, and its parts drive bits of its signals alone, where no name has a space inside.
 pub fn signals_are_apart()
     ensures { (d : Design) → IsLegal d → HasPlainNames d.source → HasApartSignals d }
+{}
+
+/// Registers and inputs have distinct paths, where loops end within the limit and the numbers of arrays are small.
+pub fn registers_and_inputs_are_distinct()
+    ensures { (d : Design) → IsLegal d → HasPlainNames d.source → IsWithinLimits d → HasSmallArrays d → IsDistinct bytes_eq (registers_of d ++ inputs_of d) }
 {}
 
 /// A child of a scope of the design is one of its scopes.

@@ -118,6 +118,7 @@ module _ (ss : List Declared) where
 
 -- the targets of each part are signals of the design
 pub parts_known : (d : Design) (p : Part) → In p (parts d) → KnownBody (signals_of d) p.body
+unfolding parts
 parts_known d p h =
     let r : (s : Scope) × In s (scopes_of d) × In p (scope_parts d.source s) = in-from (scope_parts d.source) p (scopes_of d) h in
     part_known (signals_of d) d.source r.0 (scopes_known d r.0 r.1) (λ c j. scopes_known d c (closed d r.0 c r.1 j)) p r.2

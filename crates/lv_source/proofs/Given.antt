@@ -323,5 +323,6 @@ from_known d ss (Some m) own u h =
 
 -- each signal that the names of a scope of the design give is one of its signals
 pub scopes_known : (d : Design) (u : Scope) → In u (scopes_of d) → Knows (signals_of d) u.names
+unfolding scopes_of signals_of
 scopes_known d u h =
     from_known d (signals_of d) (module_named d.source d.top) (λ v i x j. in-flat scope_signals v x (scopes_of d) i j) u h

@@ -205,6 +205,7 @@ from_closed d (Some m) f u c i j =
 
 -- a child of a scope of the design is one of its scopes
 pub closed : (d : Design) (u c : Scope) → In u (scopes_of d) → In c (children d.source u) → In c (scopes_of d)
+unfolding scopes_of
 closed d u c i j = from_closed d (module_named d.source d.top) (λ m e. found_in (λ m. bytes_eq m.name.name d.top) d.source.modules m e) u c i j
 
 pub children_in : (d : Design) (u c : Scope) → Contains (scopes_of d) u → Contains (children d.source u) c → Contains (scopes_of d) c

@@ -214,7 +214,6 @@ module _ (ss : List Declared) where
   KnownBody (Comb names s) = Knows names
   KnownBody (Clocked names c s) = Knows names
 
-
   body_of : (y : Body) → KnownBody y → (x : Bit) →
       has_bit (elim y as (λ _. List Bit) [ Assign ps value ↦ writes_of ps | Comb names s ↦ block_writes (flow names s) | Clocked names c s ↦ block_writes (flow names s) ]) x ≡ true → IsOf x
   body_of (Assign ps value) f x h = writes_known ps f x h

@@ -147,9 +147,9 @@ cells_place : (width : ℕ) (names : List Name) (x : Bit) → has_bit (flat_map 
 cells_place width [] x h = cc
 cells_place width (n ∷ ns) x h = elim (any-split (same_bit x) (bits_below width n) (flat_map (bits_below width) ns) h) [
   | inl m ↦ (
-      or-left (bytes_eq x.name n) (list_any (bytes_eq x.name) ns) (ap (λ y. bytes_eq y n) (below_name (range_with_len 0 width) n x m) ∙ name-itself n),
-      (let e : x.place < 0 + width = below_lt width n x 0 m in let f : x.place < width = omega arith in f),
-    )
+    or-left (bytes_eq x.name n) (list_any (bytes_eq x.name) ns) (ap (λ y. bytes_eq y n) (below_name (range_with_len 0 width) n x m) ∙ name-itself n),
+    (let e : x.place < 0 + width = below_lt width n x 0 m in let f : x.place < width = omega arith in f),
+  )
   | inr m ↦ (let r : (list_any (bytes_eq x.name) ns ≡ true) × (x.place < width) = cells_place width ns x m in (or-right (bytes_eq x.name n) (list_any (bytes_eq x.name) ns) r.0, r.1))
 ]
 

@@ -48,6 +48,7 @@ pub mod Tests
 pub mod Trees
 pub mod Unique
 pub mod ValueRules
+pub mod Walks
 pub mod Within
 pub mod Worked
 pub mod Writes

@@ -13,6 +13,7 @@ pub mod PartRules
 pub mod Parts
 pub mod Places
 pub mod PlainNames
+pub mod Preorder
 pub mod ScopeRules
 pub mod Scopes
 pub mod Settled

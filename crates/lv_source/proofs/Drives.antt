@@ -23,7 +23,8 @@ use Rattle.lv_source.specs.Declarations.{of_item}
 use Rattle.lv_source.specs.Scopes.{Scope, Link, module_named, instance_scopes, children, children_by, counted_from}
 use Rattle.lv_source.specs.Parts.{Design, Part, Body, Assign, part, net_part, output_part, link_body, link_part, instance_parts, whole_piece, always_body, item_parts, scope_parts, parts, scopes_of, signals_of, whole_value, as_target, links_to, option_list, drives, is_clocked, width_from, width_at}
 use Rattle.lv_source.specs.Legal.{IsLegal}
-use Rattle.lv_source.specs.PlainNames.{HasPlainNames, DrivesSignals}
+use Rattle.lv_ast.specs.PlainNames.{HasPlainNames}
+use Rattle.lv_source.specs.Settled.{HasApartSignals}
 use Rattle.lv_source.proofs.Tests.{and-left, and-right, any-split, or-left, or-right, or-split, same_name, name-itself}
 use Rattle.lv_source.proofs.Refused.{In, in-split, in-left, in-right}
 use Rattle.lv_source.proofs.FaultLaws.{in-flat}
@@ -187,7 +188,9 @@ module _ (d : Design) (legal : IsLegal d) (plain : HasPlainNames d.source) where
       (let r : HasCell h.signal x.name × (x.place < width_of h.signal) = whole_place h.signal x h.bit in
       subst (λ (n : ℕ). x.place < n) (sym (cell_width h.signal x.name h.among r.0)) r.1)
 
-  pub drives_signals : DrivesSignals d
-  drives_signals = record {
+  -- its signals are apart, and its parts drive bits of them alone
+  pub has_apart : HasApartSignals d
+  has_apart = record {
+    apart = signals_apart d legal plain;
     within = λ k p x e c h. bit_placed x (drives_known (signals_of d) p (parts_known d p (in_index p (parts d) k e)) x h);
   }

@@ -11,7 +11,7 @@ use Rattle.std.specs.Prelude.{◌≡◌, ℕ, true, false, List, [], ◌∷◌, 
 use Rattle.std.specs.List.{list_all}
 use Rattle.lv_ast.specs.declared.item.Item.TheVariants as i
 use Rattle.lv_source.specs.Parts.{Design, signals_of}
-use Rattle.lv_source.specs.PlainNames.{plain_module}
+use Rattle.lv_ast.specs.PlainNames.{plain_module}
 use Rattle.lv_ast.proofs.Build.{id, module_of, wire}
 use Rattle.lv_source.proofs.Build.{design_t}
 use Rattle.lv_source.specs.Legal.{places_of}

@@ -1,5 +1,5 @@
 -- Each scope of a source with plain names is told by its names: its signals stand below its path, by the names of its declarations.
-use Rattle.std.proofs.Common.{◌≡◌, ◌⊎◌, inl, inr, ℕ, ◌+◌, zero, suc, Bool, true, false, not, List, [], ◌∷◌, ◌++◌, length, refl, sym, ap, ◌∙◌, subst, Option, Some, None}
+use Rattle.std.proofs.Common.{◌≡◌, ◌⊎◌, inl, inr, ℕ, ◌+◌, zero, suc, Bool, true, false, ◌&&◌, not, List, [], ◌∷◌, ◌++◌, map, length, refl, sym, ap, ◌∙◌, subst, Option, Some, None}
 use Rattle.std.specs.Prelude.{bytes_eq, flat_map, filter, cond, find, nat_le, if◌then◌else◌, slice_get}
 use Rattle.std.specs.List.{list_all}
 use Rattle.lv_ast.specs.declared.expr.Path.{Path}
@@ -10,16 +10,15 @@ use Rattle.lv_ast.specs.declared.item.Item.TheVariants as i
 use Rattle.lv_ast.specs.declared.item.Module.{Module}
 use Rattle.lv_ast.specs.declared.item.Range.{Range}
 use Rattle.lv_ast.specs.declared.item.Source.{Source}
-use Rattle.lv_ast.specs.Trees.{spread, spread_all}
+use Rattle.lv_ast.specs.Trees.{spread, spread_all, fold_stmts, fold_one_stmt, fold_held, fold_arms}
 use Rattle.lv_ast.specs.Names.{Name, alone, spelled, below}
 use Rattle.lv_source.specs.Names.{Names, Declared, Sort, Other, known, with_name, is_signal_sort}
 use Rattle.lv_source.specs.Names.{Index as Index_sort}
-use Rattle.lv_source.specs.Declarations.{Thing, Direction, Wire, Reg, Parameter, Index, Instance, Label, Declaration, of_item, of_items, of_module, module_items, of_params, of_ports, port_names, declared_as}
+use Rattle.lv_source.specs.Declarations.{Thing, Direction, Wire, Reg, Parameter, Index, Instance, Label, Declaration, of_item, of_items, of_module, module_items, of_params, of_port, of_ports, port_names, declared_as, label_of, labels_or, label_step, labels}
 use Rattle.lv_source.specs.Scopes.{Scope, Override, with_parameters, overridden, override_of, signal, other, stands_for, scope_names, sort_of, is_among, is_parameter, module_scope, turn_scope, no_names, module_named, overrides, clock_by, links, instance_scope, instance_scopes, is_one_bit_input, children, children_by, counted_from, scopes_within}
 use Rattle.lv_source.specs.Parts.{numbered_from, stands_here, put_by_place, by_place, scope_signals, Design, scopes_of, scopes_from, signals_of, depth, top_scope}
-use Rattle.lv_source.specs.PlainNames.{has_space, is_plain, plain_item, plain_items, plain_module, HasPlainNames, DrivesSignals}
-use Rattle.lv_source.specs.Settled.{HasApartSignals}
-use Rattle.lv_source.proofs.Tests.{and-left, and-right, same_name, name-itself, not-true}
+use Rattle.lv_ast.specs.PlainNames.{has_space, is_plain, plain_label, plain_step, plain_arm, plain_stmt, plain_or, plain_params, plain_ports, plain_item, plain_items, plain_module, HasPlainNames}
+use Rattle.lv_source.proofs.Tests.{and-left, and-right, and-both, same_name, name-itself, not-true}
 use Rattle.lv_source.proofs.Refused.{In, in-right, in-split}
 use Rattle.lv_source.proofs.Paths.{IsPlain}
 use Rattle.lv_source.specs.ScopeRules.{duplicates}
@@ -27,8 +26,17 @@ use Rattle.lv_source.proofs.Trees.{in-from, IsTold, HasCell, tree_apart}
 use Rattle.lv_source.proofs.Facts.{some_same}
 use Rattle.lv_source.proofs.FaultLaws.{append-right, scopes_clean}
 use Rattle.lv_source.specs.Legal.{IsLegal, Duplicate, modules_again, places_of}
-use Rattle.lv_source.specs.Effect.{with_index, turns}
+use Rattle.lv_source.specs.Effect.{ArmOf, arm_step, with_index, turns}
+use Rattle.lv_ast.specs.declared.item.Aport.{Aport}
 use Rattle.lv_ast.specs.declared.item.Conn.{Conn}
+use Rattle.lv_ast.specs.declared.item.NetName.{NetName}
+use Rattle.lv_ast.specs.declared.item.Params.{Params}
+use Rattle.lv_ast.specs.declared.item.Ports.{Ports}
+use Rattle.lv_ast.specs.declared.item.Ports.TheVariants as p
+use Rattle.lv_ast.specs.declared.item.RegName.{RegName}
+use Rattle.lv_ast.specs.declared.item.Setting.{Setting}
+use Rattle.lv_ast.specs.declared.stmt.Stmt.{Stmt, Row_of-Stmt, end_of-Stmt, more_of-Stmt, Row_of-Arm, end_of-Arm, more_of-Arm, Held-Stmt-If-2, None', Some'}
+use Rattle.lv_ast.specs.declared.stmt.Stmt.TheVariants as b
 use Rattle.lv_ast.specs.declared.item.Inst.{Inst}
 use Rattle.lv_source.proofs.Kids.{Once, once, once-right, named_any, Headed, items_headed, items_differ, instance_if, mapped-from, in_index}
 
@@ -218,8 +226,8 @@ all_in p [] x h i = absurd i
 all_in p (y ∷ ys) x h (inl e) = ap p (sym e) ∙ and-left (p y) (list_all p ys) h
 all_in p (y ∷ ys) x h (inr i) = all_in p ys x (and-right (p y) (list_all p ys) h) i
 
-plain_decl : (d : Declaration) → is_plain d ≡ true → IsPlain d.name.name
-plain_decl d h = not-true (has_space d.name.name) h
+plain_decl : (n : Ident) → is_plain n ≡ true → IsPlain n.name
+plain_decl n h = not-true (has_space n.name) h
 
 mutual
   plain_spread : (x y : Item) → plain_item x ≡ true → In y (spread x) → plain_item y ≡ true
@@ -250,21 +258,79 @@ mutual
     | inr a ↦ plain_all xs y (and-right (plain_item x) (plain_items xs) h) a
   ]
 
-item_plain : (x : Item) (d : Declaration) → plain_item x ≡ true → In d (of_item x) → is_plain d ≡ true
+mapped_plain : {A : Type 0} (f : A → Declaration) (q : A → Bool) → ((x : A) → q x ≡ true → is_plain (f x).name ≡ true) → (xs : List A) → list_all q xs ≡ true → (d : Declaration) → In d (map f xs) →
+    is_plain d.name ≡ true
+mapped_plain f q g xs h d k =
+    let r : (x : _) × In x xs × (f x ≡ d) = mapped-from f d xs k in
+    ap (λ (z : Declaration). is_plain z.name) (sym r.2) ∙ g r.0 (all_in q xs r.0 h r.1)
+
+all-join : {A : Type 0} (p : A → Bool) (xs ys : List A) → list_all p xs ≡ true → list_all p ys ≡ true → list_all p (xs ++ ys) ≡ true
+all-join p [] ys h k = k
+all-join p (x ∷ xs) ys h k = and-both (p x) (list_all p (xs ++ ys)) (and-left (p x) (list_all p xs) h) (all-join p xs ys (and-right (p x) (list_all p xs) h) k)
+
+label_plain : (o : Option Ident) → plain_label o ≡ true → list_all is_plain (label_of o) ≡ true
+label_plain None h = refl
+label_plain (Some n) h = and-both (is_plain n) true h refl
+
+mutual
+  unfolding plain_stmt labels
+
+  labels_plain : (s : Stmt) → plain_stmt s ≡ true → list_all is_plain (labels s) ≡ true
+  labels_plain b.Null h = refl
+  labels_plain (b.Block' name n rs) h =
+      all-join is_plain (label_of name) _ (label_plain name (and-left (plain_label name) _ h)) (rows_plain rs (and-right (plain_label name) _ h))
+  labels_plain (b.If' c n s other) h =
+      all-join is_plain (fold_one_stmt (List Ident) (ArmOf (List Ident)) label_step arm_step s) (labels_or (fold_held (List Ident) (ArmOf (List Ident)) label_step arm_step other)) (one_plain s (and-left (fold_one_stmt Bool Bool plain_step plain_arm s) _ h)) (held_plain other (and-right (fold_one_stmt Bool Bool plain_step plain_arm s) _ h))
+  labels_plain (b.Case' wild x n arms) h = arms_plain arms h
+  labels_plain (b.Loop' index start test again next n s) h = one_plain s h
+  labels_plain (b.Now target x place) h = refl
+  labels_plain (b.Later target x place) h = refl
+
+  rows_plain : {n : _} (r : Row_of-Stmt n) → list_all (λ b. b) (fold_stmts Bool Bool plain_step plain_arm r) ≡ true →
+      list_all is_plain (flat_map (λ xs. xs) (fold_stmts (List Ident) (ArmOf (List Ident)) label_step arm_step r)) ≡ true
+  rows_plain end_of-Stmt h = refl
+  rows_plain (more_of-Stmt x xs) h = all-join is_plain (labels x) _ (labels_plain x (and-left (plain_stmt x) _ h)) (rows_plain xs (and-right (plain_stmt x) _ h))
+
+  one_plain : {n : _} (r : Row_of-Stmt n) → fold_one_stmt Bool Bool plain_step plain_arm r ≡ true → list_all is_plain (fold_one_stmt (List Ident) (ArmOf (List Ident)) label_step arm_step r) ≡ true
+  one_plain end_of-Stmt h = refl
+  one_plain (more_of-Stmt x xs) h = labels_plain x h
+
+  held_plain : (r : Held-Stmt-If-2) → plain_or (fold_held Bool Bool plain_step plain_arm r) ≡ true →
+      list_all is_plain (labels_or (fold_held (List Ident) (ArmOf (List Ident)) label_step arm_step r)) ≡ true
+  held_plain None' h = refl
+  held_plain (Some' n s) h = one_plain s h
+
+  arms_plain : {n : _} (r : Row_of-Arm n) → list_all (λ b. b) (fold_arms Bool Bool plain_step plain_arm r) ≡ true →
+      list_all is_plain (flat_map (λ (a : ArmOf (List Ident)). a.body) (fold_arms (List Ident) (ArmOf (List Ident)) label_step arm_step r)) ≡ true
+  arms_plain end_of-Arm h = refl
+  arms_plain (more_of-Arm ls body xs) h = all-join is_plain (labels body) _ (labels_plain body (and-left (plain_stmt body) _ h)) (arms_plain xs (and-right (plain_stmt body) _ h))
+
+item_plain : (x : Item) (d : Declaration) → plain_item x ≡ true → In d (of_item x) → is_plain d.name ≡ true
 item_plain (i.Generate' n items) d h k = absurd k
-item_plain (i.Loop' index start test again next label n items) d h (inl e) = ap is_plain (sym e) ∙ and-left (not (has_space label.name)) (plain_items items) h
+item_plain (i.Loop' index start test again next label n items) d h (inl e) = ap (λ (z : Declaration). is_plain z.name) (sym e) ∙ and-left (is_plain label) (plain_items items) h
 item_plain (i.Loop' index start test again next label n items) d h (inr e) = absurd e
-item_plain (i.Port a) d h k = all_in is_plain _ d h k
-item_plain (i.Wire signed range names) d h k = all_in is_plain _ d h k
-item_plain (i.Reg signed range names) d h k = all_in is_plain _ d h k
-item_plain (i.Index genvar names) d h k = all_in is_plain _ d h k
-item_plain (i.Params local ps) d h k = all_in is_plain _ d h k
+item_plain (i.Port a) d h k = mapped_plain _ is_plain (λ x e. e) a.names h d k
+item_plain (i.Wire signed range names) d h k = mapped_plain _ (λ (n : NetName). is_plain n.name) (λ x e. e) names h d k
+item_plain (i.Reg signed range names) d h k = mapped_plain _ (λ (n : RegName). is_plain n.name) (λ x e. e) names h d k
+item_plain (i.Index genvar names) d h k = mapped_plain _ is_plain (λ x e. e) names h d k
+item_plain (i.Params local ps) d h k = mapped_plain _ (λ (s : Setting). is_plain s.name) (λ x e. e) ps.list h d k
 item_plain (i.Assign list) d h k = absurd k
-item_plain (i.Always watch stmt place) d h k = all_in is_plain _ d h k
-item_plain (i.Instance kind settings insts) d h k = all_in is_plain _ d h k
+item_plain (i.Always watch stmt place) d h k = mapped_plain _ is_plain (λ x e. e) (labels stmt) (labels_plain stmt h) d k
+item_plain (i.Instance kind settings insts) d h k = mapped_plain _ (λ (n : Inst). is_plain n.name) (λ x e. e) insts h d k
+
+ports_plain : (ps : Ports) (d : Declaration) → plain_ports ps ≡ true → In d (of_ports ps) → is_plain d.name ≡ true
+ports_plain (p.Declared ports) d h k =
+    (let r : (a : Aport) × In a ports × In d (of_port a) = in-from of_port d ports k in mapped_plain _ is_plain (λ x e. e) r.0.names (all_in (λ (a : Aport). list_all is_plain a.names) ports r.0 h r.1) d r.2)
+ports_plain p.Absent d h k = absurd k
+ports_plain p.Empty d h k = absurd k
+ports_plain (p.Names names) d h k = absurd k
+
+params_plain : (xs : List Params) (d : Declaration) → list_all plain_params xs ≡ true → In d (flat_map (of_params false) xs) → is_plain d.name ≡ true
+params_plain xs d h k =
+    (let r : (a : Params) × In a xs × In d (of_params false a) = in-from (of_params false) d xs k in mapped_plain _ (λ (s : Setting). is_plain s.name) (λ x e. e) r.0.list (all_in plain_params xs r.0 h r.1) d r.2)
 
 items_plain : (xs : List Item) → ((x : Item) → In x xs → plain_item x ≡ true) → (d : Declaration) → In d (of_items xs) → IsPlain d.name.name
-items_plain xs h d k = (let r : (x : Item) × In x xs × In d (of_item x) = in-from of_item d xs k in plain_decl d (item_plain r.0 d (h r.0 r.1) r.2))
+items_plain xs h d k = (let r : (x : Item) × In x xs × In d (of_item x) = in-from of_item d xs k in plain_decl d.name (item_plain r.0 d (h r.0 r.1) r.2))
 
 -- ---- the shape of each scope
 
@@ -273,17 +339,22 @@ module_shaped path top around os clocks m h =
     let ds : List Declaration = of_module m in
     let constants : Names = with_parameters os no_names ds in
     let head : List Declaration = flat_map (of_params false) m.params ++ of_ports m.ports in
-    let heads : list_all is_plain head ≡ true = and-left (list_all is_plain head) (list_all plain_item m.items) h in
+    let headers : (list_all plain_params m.params && plain_ports m.ports) ≡ true = and-left (list_all plain_params m.params && plain_ports m.ports) (list_all plain_item m.items) h in
+    let heads : (d : Declaration) → In d head → is_plain d.name ≡ true =
+    (λ d k. elim (in-split d (flat_map (of_params false) m.params) (of_ports m.ports) k) [
+      | inl a ↦ params_plain m.params d (and-left (list_all plain_params m.params) (plain_ports m.ports) headers) a
+      | inr a ↦ ports_plain m.ports d (and-right (list_all plain_params m.params) (plain_ports m.ports) headers) a
+    ]) in
     let items : (x : Item) → In x (module_items m) → plain_item x ≡ true =
     (λ x k. (let r : (z : Item) × In z m.items × In x (spread z) = in-from spread x m.items k in
-    plain_spread r.0 x (all_in plain_item m.items r.0 (and-right (list_all is_plain head) (list_all plain_item m.items) h) r.1) r.2)) in
+    plain_spread r.0 x (all_in plain_item m.items r.0 (and-right (list_all plain_params m.params && plain_ports m.ports) (list_all plain_item m.items) h) r.1) r.2)) in
     record {
       constants = constants;
       top = top;
       clocks = filter (is_one_bit_input constants ds) (clocks constants);
       names = refl;
       fixed = λ n d i e p. params_fixed os no_names ds n d i e p;
-      plain = λ d i. elim (in-split d head (of_items (module_items m)) i) [ inl a ↦ plain_decl d (all_in is_plain head d heads a) | inr a ↦ items_plain (module_items m) items d a ];
+      plain = λ d i. elim (in-split d head (of_items (module_items m)) i) [ inl a ↦ plain_decl d.name (heads d a) | inr a ↦ items_plain (module_items m) items d a ];
       items = items;
       front = head;
       whole = refl;
@@ -327,7 +398,7 @@ module _ (source : Source) (plain : HasPlainNames source) (s : Scope) where
   child_shaped k (i.Loop' index start test again next label n items) c p h =
       (let r : (v : ℕ) × In v (turns s.names index.name start test next) × (turn_scope s k index label (spread_all items) v ≡ c) =
       mapped-from (turn_scope s k index label (spread_all items)) c (turns s.names index.name start test next) h in
-      subst IsShaped r.2 (turn_shaped s k index label (spread_all items) r.0 (λ y j. plain_all items y (and-right (not (has_space label.name)) (plain_items items) p) j)))
+      subst IsShaped r.2 (turn_shaped s k index label (spread_all items) r.0 (λ y j. plain_all items y (and-right (is_plain label) (plain_items items) p) j)))
   child_shaped k (i.Port a) c p h = absurd h
   child_shaped k (i.Wire signed range names) c p h = absurd h
   child_shaped k (i.Reg signed range names) c p h = absurd h
@@ -378,6 +449,3 @@ signals_apart d legal plain i j x y name e f a b =
     (λ m k. all_in plain_module d.source.modules m plain.plain (found_in (λ m. bytes_eq m.name.name d.top) d.source.modules m k))
     (λ u k. scopes_clean duplicates (scopes_of d) (append-right (modules_again d.source.modules) _ (legal.nothing Duplicate)) u k)
     x y name (in_index x (signals_of d) i e) (in_index y (signals_of d) j f) a b
-
-pub apart_by : (d : Design) → IsLegal d → HasPlainNames d.source → DrivesSignals d → HasApartSignals d
-apart_by d legal plain drives = record { apart = signals_apart d legal plain; within = drives.within }

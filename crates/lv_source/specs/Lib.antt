@@ -12,7 +12,6 @@ pub mod Observe
 pub mod PartRules
 pub mod Parts
 pub mod Places
-pub mod PlainNames
 pub mod Preorder
 pub mod ScopeRules
 pub mod Scopes

@@ -14,9 +14,9 @@ ghost use Rattle.lv_source.specs.Summary.{summary, leaves_latch, exposes_own};
 ghost use Rattle.lv_source.specs.Places.{Bit};
 ghost use Rattle.lv_source.specs.Views.{View, AreViewed};
 ghost use Rattle.lv_source.specs.Drivers.{Drivers, drivers, AreDriven};
-ghost use Rattle.lv_source.specs.Scopes.{Scope, module_named};
+ghost use Rattle.lv_source.specs.Scopes.{Scope, module_named, children};
 ghost use Rattle.lv_source.specs.Preorder.{AreScopes, AreSome, AreSomeItems};
-ghost use Rattle.lv_source.specs.PlainNames.{HasPlainNames, DrivesSignals};
+ghost use Rattle.lv_ast.specs.PlainNames.{HasPlainNames};
 ghost use Rattle.lv_source.specs.Faults.{faults, scope_faults};
 ghost use Rattle.lv_ast.specs.declared.item.Item.{Item};
 ghost use Rattle.lv_ast.specs.declared.item.Module.{Module};
@@ -27,10 +27,10 @@ pub fn settled_valuation_is_one()
     ensures { (d : Design) (v w : Valuation) → IsLegal d → IsSettled d v → IsSettled d w → SameOn (registers_of d) v w → SameInputs d v w → v ≡ w }
 {}
 
-/// A legal source has a settled valuation for each state and each input, where its signals' names are apart and its parts
-/// drive bits of its signals alone.
+/// A legal source whose names have no space inside, as all have that tokens spell, has a settled valuation for each state and
+/// each input.
 pub fn settled_valuation_is_there()
-    ensures { (d : Design) (s : Valuation) → IsLegal d → HasApartSignals d → ((name : Name) → s name < 2 ^ width_at d name) →
+    ensures { (d : Design) (s : Valuation) → IsLegal d → HasPlainNames d.source → ((name : Name) → s name < 2 ^ width_at d name) →
         (v : Valuation) × IsSettled d v × SameOn (registers_of d) v s × SameInputs d v s }
 {}
 
@@ -75,9 +75,14 @@ pub fn scope_faults_are_told()
         HoldsAt d kind (record { path = s.path; place = place }) }
 {}
 
-/// No two signals of a legal source share a cell, where no declared name has a space inside.
+/// No two signals of a legal source share a cell, and its parts drive bits of its signals alone, where no name has a space inside.
 pub fn signals_are_apart()
-    ensures { (d : Design) → IsLegal d → HasPlainNames d.source → DrivesSignals d → HasApartSignals d }
+    ensures { (d : Design) → IsLegal d → HasPlainNames d.source → HasApartSignals d }
+{}
+
+/// A child of a scope of the design is one of its scopes.
+pub fn children_are_scopes()
+    ensures { (d : Design) (s c : Scope) → Contains (scopes_of d) s → Contains (children d.source s) c → Contains (scopes_of d) c }
 {}
 
 /// The signals are those of the declared names that are no clocks, in the same order.

@@ -52,6 +52,7 @@ pub mod Trees
 pub mod Turns
 pub mod Unique
 pub mod ValueRules
+pub mod Walks
 pub mod Within
 pub mod Worked
 pub mod Writes

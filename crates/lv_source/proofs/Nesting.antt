@@ -126,7 +126,7 @@ gone around m (x ∷ xs) (inr h) k =
 
 -- ---- children
 
-abbrev height : Source → Scope → ℕ
+abbrev pub height : Source → Scope → ℕ
 height source s = not_around s.around source.modules + counted s.items
 
 instance_both : (b : Bool) (x c : Scope) → In c (if b then [] else x ∷ []) → (b ≡ false) × (x ≡ c)
@@ -174,7 +174,7 @@ module _ (source : Source) (s : Scope) where
     | inr a ↦ items_lower (k + length (of_item x)) xs (λ y j. f y (inr j)) c a
   ]
 
-  lower : (c : Scope) → In c (children source s) → height source c < height source s
+  pub lower : (c : Scope) → In c (children source s) → height source c < height source s
   lower c h = items_lower s.header s.items (λ x j. one_of x s.items j) c h
 
 -- ---- scopes
@@ -195,13 +195,16 @@ module _ (source : Source) where
       let l : height source r.0 < height source s = lower source s r.0 r.1 in
       inr (in-flat (scopes_within n source) r.0 c (children source s) r.1 (within_closed n r.0 (omega arith) u c r.2 j))
 
-from_closed : (d : Design) (o : Option Module) → ((m : Module) → o ≡ Some m → In m d.source.modules) → (u c : Scope) → In u (scopes_from d o) → In c (children d.source u) → In c (scopes_from d o)
-from_closed d None f u c i j = absurd i
-from_closed d (Some m) f u c i j =
-    let a : not_around (m.name.name ∷ []) d.source.modules + weight m ≤ not_around [] d.source.modules = gone [] m d.source.modules (f m refl) refl in
+pub top_lower : (d : Design) (m : Module) → In m d.source.modules → height d.source (top_scope d m) < suc (depth d.source)
+top_lower d m i =
+    let a : not_around (m.name.name ∷ []) d.source.modules + weight m ≤ not_around [] d.source.modules = gone [] m d.source.modules i refl in
     let b : counted (module_items m) ≤ counted m.items = module_fewer m.items in
     let e : not_around [] d.source.modules ≡ depth d.source = all_modules d.source.modules in
-    within_closed d.source (suc (depth d.source)) (top_scope d m) (omega arith) u c i j
+    omega arith
+
+from_closed : (d : Design) (o : Option Module) → ((m : Module) → o ≡ Some m → In m d.source.modules) → (u c : Scope) → In u (scopes_from d o) → In c (children d.source u) → In c (scopes_from d o)
+from_closed d None f u c i j = absurd i
+from_closed d (Some m) f u c i j = within_closed d.source (suc (depth d.source)) (top_scope d m) (top_lower d m (f m refl)) u c i j
 
 -- a child of a scope of the design is one of its scopes
 pub closed : (d : Design) (u c : Scope) → In u (scopes_of d) → In c (children d.source u) → In c (scopes_of d)

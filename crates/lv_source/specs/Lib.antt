@@ -12,6 +12,7 @@ pub mod Observe
 pub mod PartRules
 pub mod Parts
 pub mod Places
+pub mod Preorder
 pub mod ScopeRules
 pub mod Scopes
 pub mod Settled

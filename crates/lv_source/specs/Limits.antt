@@ -119,8 +119,12 @@ item_size s (i.Loop' index start test again next label n items) =
     record { turns = length (turns s.names index.name start test next); nodes = expr_nodes start + expr_nodes test + expr_nodes next }
 item_size s _ = nodes_alone 0
 
+-- of the header of a scope and of these items
+abbrev pub items_size : Scope → List Item → Size
+items_size s items = sum_sizes (nodes_alone (sum (map params_nodes s.params) + ports_nodes s.ports) ∷ map (item_size s) items)
+
 abbrev pub scope_size : Scope → Size
-scope_size s = sum_sizes (nodes_alone (sum (map params_nodes s.params) + ports_nodes s.ports) ∷ map (item_size s) s.items)
+scope_size s = items_size s s.items
 
 abbrev pub design_size : Design → Size
 design_size d = sum_sizes (map scope_size (scopes_of d))

@@ -2,11 +2,11 @@
 //! refusals, limits and observers, after IEEE 1364-2005. Each function below does nothing: its contract is a law of these definitions.
 #![tactic(auto)]
 
-ghost use Rattle.std.specs.Prelude.{◌≡◌, ◌↔◌, ◌<◌, ◌^◌, ℕ, List, ◌++◌, Contains, filter, bytes_eq};
+ghost use Rattle.std.specs.Prelude.{◌≡◌, ◌↔◌, ◌<◌, ◌^◌, ℕ, List, [], ◌∷◌, ◌++◌, Some, Contains, filter, bytes_eq};
 ghost use Rattle.std.specs.List.{AllZip, IsDistinct};
 ghost use Rattle.lv_ast.specs.Names.{Name};
 ghost use Rattle.lv_source.specs.Names.{Names, Declared, Valuation};
-ghost use Rattle.lv_source.specs.Parts.{Design, At, scopes_of, signals_of, declared_of, is_signal, registers_of, inputs_of, width_at};
+ghost use Rattle.lv_source.specs.Parts.{Design, At, top_scope, scopes_of, signals_of, declared_of, is_signal, registers_of, inputs_of, width_at};
 ghost use Rattle.lv_source.specs.Settled.{IsSettled, Follows, SameOn, SameInputs, IsRun, StartAlike, HasApartSignals};
 ghost use Rattle.lv_source.specs.Legal.{IsLegal, Kind, Refusal, HoldsAt, refusals, places_of};
 ghost use Rattle.lv_source.specs.Limits.{IsWithinLimits, HasSmallArrays};
@@ -15,9 +15,12 @@ ghost use Rattle.lv_source.specs.Summary.{summary, leaves_latch, exposes_own};
 ghost use Rattle.lv_source.specs.Places.{Bit};
 ghost use Rattle.lv_source.specs.Views.{View, AreViewed};
 ghost use Rattle.lv_source.specs.Drivers.{Drivers, drivers, AreDriven};
-ghost use Rattle.lv_source.specs.Scopes.{Scope, children};
+ghost use Rattle.lv_source.specs.Scopes.{Scope, module_named, children};
+ghost use Rattle.lv_source.specs.Preorder.{AreScopes, AreSome, AreSomeItems};
 ghost use Rattle.lv_ast.specs.PlainNames.{HasPlainNames};
 ghost use Rattle.lv_source.specs.Faults.{faults, scope_faults};
+ghost use Rattle.lv_ast.specs.declared.item.Item.{Item};
+ghost use Rattle.lv_ast.specs.declared.item.Module.{Module};
 ghost use Rattle.lv_ast.specs.declared.stmt.Stmt.{Stmt};
 
 /// A legal source has at most one settled valuation for each state and each input.
@@ -96,4 +99,19 @@ pub fn signals_are_declared()
 /// The table of drivers tells which bits are driven twice or not at all, the registers and the next value of a bit.
 pub fn drivers_tell()
     ensures { (ss : List Declared) (vs : List View) (table : Drivers) → ((b : Bit) → table b ≡ drivers vs b) → AreDriven ss vs table }
+{}
+
+/// A walk from the top comes to the scopes of the design in their order, and to no others.
+pub fn walk_gives_scopes()
+    ensures { (d : Design) (m : Module) (us : List Scope) → module_named d.source d.top ≡ Some m → AreScopes d.source (top_scope d m ∷ []) us ↔ us ≡ scopes_of d }
+{}
+
+/// What is counted of scopes that are done, with those that wait, is no more than what is counted of all.
+pub fn counts_only_grow()
+    ensures { (d : Design) (done waiting us : List Scope) → done ++ us ≡ scopes_of d → AreScopes d.source waiting us → AreSome d done waiting }
+{}
+
+/// Nor is it with the first items of the next scope.
+pub fn items_only_add()
+    ensures { (d : Design) (done us : List Scope) (s : Scope) (xs ys : List Item) → done ++ s ∷ us ≡ scopes_of d → xs ++ ys ≡ s.items → AreSomeItems d done s xs }
 {}

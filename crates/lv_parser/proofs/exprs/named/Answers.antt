@@ -13,7 +13,7 @@ use Rattle.lv_parser.proofs.exprs.named.Goals as goal
 abbrev path_at : List PathStep → List ℕ × ℕ → Path
 path_at steps parts = record { steps = steps; name = parts.0; place = parts.1 }
 
-path_is : (i : Ident) (steps : List PathStep) (parts : List ℕ × ℕ) (ss : List Select) → steps ≡ [] → parts ≡ (i.name, i.place) → (path_at steps parts, ss) ≡ (rules.path_of i, ss)
+path_is : (i : Ident) (steps : List PathStep) (parts : List ℕ × ℕ) (ss : List Select) → steps ≡ [] → parts ≡ (i.name, i.place) → ◌≡◌ {A = Path × List Select} (path_at steps parts, ss) (rules.path_of i, ss)
 path_is i steps parts ss e f = ap (λ t. (path_at t parts, ss)) e ∙ ap (λ q. (path_at [] q, ss)) f
 
 pub returns-in_err-name-clause-answer : goal.returns-in_err-name-clause-answer

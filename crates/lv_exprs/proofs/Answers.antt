@@ -56,7 +56,7 @@ run_more p (j ∷ ks) k s z z' e f =
 
 pub fails : (p : Bool) (ts : List Symbol) (n : ℕ) (s : State) → n ≤ length ts → run p start (take n ts) ≡ Some s → ((x : Form) → finish (settle 1 s) [] ≡ done x [] → ⊥) →
     (n < length ts → step p s (get_or ts n t.Other) ≡ None) → Fails p ts n
-fails p ts n s w e f d = record { within = w; dead = dead_at p ts n s e d; none = none }
+fails p ts n s w e f d = record { within = w; alive = alive p (take n ts) s e; dead = dead_at p ts n s e d; none = none }
   where
     none : (m : ℕ) (x : Form) → Reads p ts m x → ⊥
     none m x r = elim (cases_order m n) [

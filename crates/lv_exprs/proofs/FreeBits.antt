@@ -207,14 +207,40 @@ reads_either ts k h (suc m) x r = h.none (suc m) x (record {
   ];
 })
 
+-- what begins a literal with free bits, and is not all of it, begins an expression that has a value
+abbrev any_name : Form
+any_name = name (record { place = 0; start = 0; end = 0 })
+
+nothing_begun : BeginsDefinite []
+nothing_begun = (text any_name, any_name, (tt, omega arith), refl)
+
+begins_definite : (us more : List Symbol) (x : Form) → is_free x ≡ true → text x ≡ us ++ more → (more ≡ [] → ⊥) → BeginsDefinite us
+begins_definite [] more x f e g = nothing_begun
+begins_definite (a ∷ []) more (based b) f e g = absurd (g (let q : more ≡ [] = cc in q))
+begins_definite (a ∷ []) more (sized n b) f e g = ([], plain n, (tt, omega arith), (let q : t.Number n ≡ a = cc in ap (λ z. z ∷ []) q))
+begins_definite (a ∷ c ∷ us) more (based b) f e g = cc
+begins_definite (a ∷ c ∷ []) more (sized n b) f e g = absurd (g (let q : more ≡ [] = cc in q))
+begins_definite (a ∷ c ∷ d ∷ us) more (sized n b) f e g = cc
+begins_definite (a ∷ us) more _ f e g = cc
+
 pub fails_definite : (ts : List Symbol) (k : ℕ) → Fails false ts k → FailsDefinite ts k
-fails_definite ts k h = record { within = h.within; dead = λ l b. h.dead l (begins_expr _ b); none = reads_either ts k h }
+fails_definite ts k h = record { within = h.within; alive = begun; dead = λ l b. h.dead l (begins_expr _ b); none = reads_either ts k h }
+  where
+    read : (x : Form) → is_free x ≡ true → text x ≡ take k ts ++ [] → ⊥
+    read x f e = h.none k x (record { within = h.within; expr = inr f; spells = e ∙ append-nil (take k ts); ends = h.dead })
+
+    begun : BeginsDefinite (take k ts)
+    begun = elim h.alive.2 [
+      | inl d ↦ (h.alive.0, h.alive.1, d, h.alive.3)
+      | inr f ↦ begins_definite (take k ts) h.alive.0 h.alive.1 f h.alive.3 (λ q. read h.alive.1 f (h.alive.3 ∙ ap (λ v. take k ts ++ v) q))
+    ]
 
 -- ---- a literal with free bits
 
 based_fails : (b : Based) (rest : List Symbol) → is_free (based b) ≡ true → FailsDefinite (t.Based b ∷ rest) 0
 based_fails b rest f = record {
   within = omega arith;
+  alive = nothing_begun;
   dead = λ l z. never z.1 z.0 z.2.0 z.3;
   none = λ m x r. nothing m x r;
 }

@@ -31,9 +31,10 @@ pub record ReadsDefinite (ts : List Symbol) (n : ℕ) (x : Form) : Type 0 where
   pub spells : text x ≡ take n ts
   pub ends : n < length ts → BeginsDefinite (take (n + 1) ts) → ⊥
 
--- nothing is read so, and no such expression's spelling begins with the tokens up to the one at n
+-- nothing is read so: some such expression's spelling begins with the tokens before the one at n, and none with those up to it
 pub record FailsDefinite (ts : List Symbol) (n : ℕ) : Type 0 where
   pub within : n ≤ length ts
+  pub alive : BeginsDefinite (take n ts)
   pub dead : n < length ts → BeginsDefinite (take (n + 1) ts) → ⊥
   pub none : (m : ℕ) (x : Form) → ReadsDefinite ts m x → ⊥
 

@@ -13,9 +13,10 @@ pub record Reads (p : Bool) (ts : List Symbol) (n : ℕ) (x : Form) : Type 0 whe
   pub spells : text x ≡ take n ts
   pub ends : n < length ts → Begins p (take (n + 1) ts) → ⊥
 
--- nothing is read so, and no expression's spelling begins with the tokens up to the one at n
+-- nothing is read so: some expression's spelling begins with the tokens before the one at n, and none with those up to it
 pub record Fails (p : Bool) (ts : List Symbol) (n : ℕ) : Type 0 where
   pub within : n ≤ length ts
+  pub alive : Begins p (take n ts)
   pub dead : n < length ts → Begins p (take (n + 1) ts) → ⊥
   pub none : (m : ℕ) (x : Form) → Reads p ts m x → ⊥
 

@@ -5,7 +5,7 @@ use lv_bits::NoMemory;
 pub enum SyntaxError {
     /// There is no room for the tree.
     NoMemory,
-    /// No expression's spelling begins with the tokens up to this one, which is given by its number, and none is read.
+    /// The number of a token: some expression's spelling begins with those before it and none with it too, and none is read.
     Syntax(usize),
     /// Each expression that begins with the tokens up to this one is higher than 200. Where paths are allowed it may also
     /// be the end of an expression that is higher.

@@ -145,11 +145,12 @@ module _ (bytes : List ℕ) (d : ℕ → Limit) (l : Leaf) (ls : List Lexeme) (n
           ends o.0 o.1 (sym rest_is ∙ o.2)
           (subst (λ xs. Begins base (all bytes) (leaf l) (xs ++ (o.0 ∷ []))) front_is (begun_further (length fs) o.0 o.1 more y o.2 v f))
 
-  pub fails_leaf : NothingBegins n → ((m : ℕ) (x : Form) → m ≤ length (symbols_of ls) → ValidAt l x → text x ≡ take m (symbols_of ls) → NothingBegins m → ⊥) →
+  pub fails_leaf : (more : List Symbol) (y : Form) → ValidAt l y → text y ≡ take n (symbols_of ls) ++ more → NothingBegins n → ((m : ℕ) (x : Form) → m ≤ length (symbols_of ls) → ValidAt l x → text x ≡ take m (symbols_of ls) → NothingBegins m → ⊥) →
       Fails base (all bytes) (leaf l) ls (drop n ls)
-  fails_leaf h none = record {
+  fails_leaf more y v e h none = record {
     front = take n ls;
     cut = sym (take-append-drop n ls);
+    alive = begun n more y v e;
     dead = λ t us f. not_begun h t us f;
     none = λ x others r. read_symbols none x r.front others r.cut r.spelled.0 r.ends;
   }
@@ -192,13 +193,14 @@ module _ (bytes : List ℕ) (tokens : List Token) (at : ℕ) (d : ℕ → Limit)
         (reads_leaf bytes d l (from bytes tokens at) (end - at) f v e h low));
   }
 
-  refused_leaf : (l : Leaf) (k : ℕ) → at ≤ length tokens → at ≤ k → k - at ≤ length (symbols_of (from bytes tokens at)) → NothingBegins bytes d l (from bytes tokens at) (k - at) (k - at) →
+  refused_leaf : (l : Leaf) (k : ℕ) → at ≤ length tokens → at ≤ k → k - at ≤ length (symbols_of (from bytes tokens at)) →
+      (more : List Symbol) (x : Form) → ValidAt l x → text x ≡ take (k - at) (symbols_of (from bytes tokens at)) ++ more → NothingBegins bytes d l (from bytes tokens at) (k - at) (k - at) →
       ((m : ℕ) (x : Form) → m ≤ length (symbols_of (from bytes tokens at)) → ValidAt l x → text x ≡ take m (symbols_of (from bytes tokens at)) → NothingBegins bytes d l (from bytes tokens at) (k - at) m → ⊥) →
       IsRefused bytes tokens d (leaf l) at (error.Syntax k)
-  refused_leaf l k r w h dead none = record {
+  refused_leaf l k r w h more x v e dead none = record {
     why = (
       in_tokens k r w h,
-      subst (λ rest. Fails base (all bytes) (leaf l) (from bytes tokens at) rest) (further bytes tokens at k w) (fails_leaf bytes d l (from bytes tokens at) (k - at) dead none),
+      subst (λ rest. Fails base (all bytes) (leaf l) (from bytes tokens at) rest) (further bytes tokens at k w) (fails_leaf bytes d l (from bytes tokens at) (k - at) more x v e dead none),
     );
   }
 
@@ -217,7 +219,7 @@ module _ (bytes : List ℕ) (tokens : List Token) (at : ℕ) (d : ℕ → Limit)
 
   definite_wrong : (k : ℕ) → at ≤ length tokens → at ≤ k → FailsDefinite (symbols_of (from bytes tokens at)) (k - at) → IsRefused bytes tokens d (leaf value) at (error.Syntax k)
   definite_wrong k r w f =
-      refused_leaf value k r w f.within (λ h more y v e. f.dead h (more, y, v, e))
+      refused_leaf value k r w f.within f.alive.0 f.alive.1 f.alive.2 f.alive.3 (λ h more y v e. f.dead h (more, y, v, e))
       (λ m x h v e ends. f.none m x (record { within = h; definite = v; spells = e; ends = λ h' b. ends h' b.0 b.1 b.2 b.3 }))
 
   definite_deep : (k : ℕ) → at ≤ k → IsTooHighDefinite 200 (symbols_of (from bytes tokens at)) (k - at) → IsRefused bytes tokens d (leaf value) at (error.Depth k)
@@ -236,7 +238,7 @@ module _ (bytes : List ℕ) (tokens : List Token) (at : ℕ) (d : ℕ → Limit)
 
   expr_wrong : (k : ℕ) → at ≤ length tokens → at ≤ k → exprs.Fails false (symbols_of (from bytes tokens at)) (k - at) → IsRefused bytes tokens d (leaf label) at (error.Syntax k)
   expr_wrong k r w f =
-      refused_leaf label k r w f.within (λ h more y v e. f.dead h (more, y, v, e))
+      refused_leaf label k r w f.within f.alive.0 f.alive.1 f.alive.2 f.alive.3 (λ h more y v e. f.dead h (more, y, v, e))
       (λ m x h v e ends. f.none m x (record { within = h; expr = v; spells = e; ends = λ h' b. ends h' b.0 b.1 b.2 b.3 }))
 
   expr_deep : (k : ℕ) → at ≤ k → exprs.IsTooHigh 200 false (symbols_of (from bytes tokens at)) (k - at) → IsRefused bytes tokens d (leaf label) at (error.Depth k)

@@ -12,6 +12,7 @@ use Rattle.lv_grammar.specs.Lexemes.{Lexeme, lexeme, lexemes, head, place_of}
 use Rattle.lv_grammar.specs.Shapes.{Shape, Rule, Placed, base, fits, stands, rule_leads}
 use Rattle.lv_grammar.specs.Shapes as shapes
 use Rattle.lv_parser.specs.Answers.{from, leads, placed_result, IsRead, IsRefused, Answer}
+use Rattle.lv_grammar.proofs.Settings.{setting}
 use Rattle.lv_parser.proofs.Paths.{lacks_of}
 
 nothing_is : {T : Type 0} (t : T) → None ≡ Some t → ⊥
@@ -68,7 +69,7 @@ head_some text tokens at t e = ap head (from_some text tokens at t e)
 
 -- nothing is read where the token is of another shape
 pub token_refused : {text : List ℕ} {tokens : List Token} (d : ℕ → Limit) (p : Shape) (at : ℕ) → at ≤ length tokens → stands p (from text tokens at) ≡ false → IsRefused text tokens d (one p) at (error.Syntax at)
-token_refused {text} {tokens} d p at w e = record { why = (w, one_fails (lacks_of p (from text tokens at) e)) }
+token_refused {text} {tokens} d p at w e = record { why = (w, one_fails (setting text d).base (lacks_of p (from text tokens at) e)) }
 
 -- ---- which tokens a rule begins with
 

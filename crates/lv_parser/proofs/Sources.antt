@@ -1,5 +1,5 @@
 -- The whole source: what its reader's answers say of all tokens.
-use Rattle.std.proofs.Common.{◌≡◌, ℕ, zero, suc, ◌+◌, ◌-◌, ◌≤◌, ◌<◌, List, [], ◌∷◌, ◌++◌, map, take, drop, length, Bool, true, false, Result, Ok, Err, MatchResult, refl, sym, ◌∙◌, ap, subst, append_assoc, append-nil, codes, arith, length-append, length-drop}
+use Rattle.std.proofs.Common.{◌≡◌, ℕ, zero, suc, ◌+◌, ◌-◌, ◌≤◌, ◌<◌, List, [], ◌∷◌, ◌++◌, map, take, drop, length, Bool, true, false, Result, Ok, Err, MatchResult, refl, sym, ◌∙◌, ap, subst, append_assoc, append-nil, codes, arith, length-drop}
 use Rattle.std.proofs.lemmas.List.{take-append-drop, append_cancel_right, drop_all, length-map}
 use Rattle.std.specs.Result.{IsErrAnd}
 use Rattle.lv_ast.specs.declared.tokens.Token.{Token}
@@ -11,7 +11,9 @@ use Rattle.lv_viable.specs.Grammar.{Gram, many}
 use Rattle.lv_viable.specs.Spelling.{IsSpelled}
 use Rattle.lv_viable.specs.Reading.{Begins, Reads, Fails, PassesLimit}
 use Rattle.lv_viable.specs.Nexts.{Outside, Opens}
-use Rattle.lv_viable.proofs.Lists.{nil_cons}
+use Rattle.lv_viable.proofs.Lists.{nil_cons, true_false}
+use Rattle.lv_viable.proofs.Calls.{is_within}
+use Rattle.lv_viable.proofs.FactsOf.{facts_of}
 use Rattle.lv_viable.proofs.Pairs.{past, whole}
 use Rattle.lv_viable.proofs.OneAnswer.{reads_not_fails}
 use Rattle.lv_viable.proofs.Good.{fails_outside, outside_nothing}
@@ -52,21 +54,6 @@ drop_is_some (suc k) (x ∷ xs) us t e = let i : k < length xs = drop_is_some k 
 drop_is_some zero [] us t e = absurd (nil_cons t us (sym e))
 drop_is_some (suc k) [] us t e = absurd (nil_cons t us (sym e))
 
--- the first k + 1 go on behind the first j + 1
-take_longer : {T : Type 0} (j k : ℕ) (xs : List T) → j ≤ k → k < length xs → (t : T) × (m : List T) × (us : List T) × (drop j xs ≡ t ∷ us) × (take (suc k) xs ≡ take j xs ++ (t ∷ m))
-take_longer j k [] l w = absurd (omega (arith, w))
-take_longer zero k (x ∷ xs) l w = (x, take k xs, xs, refl, refl)
-take_longer (suc j) zero (x ∷ xs) l w = absurd (omega (arith, l))
-take_longer (suc j) (suc k) (x ∷ xs) l w =
-    let i : (t : _) × (m : List _) × (us : List _) × (drop j xs ≡ t ∷ us) × (take (suc k) xs ≡ take j xs ++ (t ∷ m)) = take_longer j k xs (omega (arith, l)) (omega (arith, w)) in
-    (i.0, i.1, i.2, i.3, ap (λ ys. x ∷ ys) i.4)
-
--- what is cut off at k behind the tokens from j on ends no earlier
-no_earlier : {T : Type 0} (j k : ℕ) (xs f : List T) → drop j xs ≡ f ++ drop k xs → j < length xs → k ≤ length xs → j ≤ k
-no_earlier j k xs f e l w =
-    let n : length xs - j ≡ length f + (length xs - k) = sym (length-drop j xs) ∙ ap length e ∙ length-append f (drop k xs) ∙ ap (λ m. length f + m) (length-drop k xs) in
-    omega (arith, n, l, w)
-
 -- ---- of one answer for the whole
 
 module _ (text : List ℕ) (tokens : List Token) where
@@ -77,6 +64,7 @@ module _ (text : List ℕ) (tokens : List Token) where
   wrong : (k : ℕ) → k ≤ length tokens → Fails base (all text) source_rule (lexemes text tokens) (from text tokens k) → IsWrong text tokens k
   wrong k w f = record {
     place = w;
+    alive = subst (λ ts. Begins base (all text) source_rule ts) (before_drop k (lexemes text tokens) f.front f.cut) f.alive;
     dead = λ l b.
         let n : (t : Lexeme) × (drop k (lexemes text tokens) ≡ t ∷ drop (suc k) (lexemes text tokens)) = drop_some k (lexemes text tokens) (subst (λ m. k < m) (sym count) l) in
         f.dead n.0 _ n.1 (subst (λ ts. Begins base (all text) source_rule ts) (take_next k (lexemes text tokens) _ n.0 n.1 ∙ ap (λ ts. ts ++ (n.0 ∷ [])) (sym (before_drop k (lexemes text tokens) f.front f.cut))) b);
@@ -98,18 +86,19 @@ module _ (text : List ℕ) (tokens : List Token) where
   refused (error.Syntax k) r = wrong k r.why.0 r.why.1
   refused (error.Depth k) r = deep k r.why
 
-  -- a source ends where others tokens stand
-  ended : (j k : ℕ) (s : Source) → Reads base (all text) (low text) source_rule (lexemes text tokens) s (from text tokens j) → j ≤ k → j < length tokens → k ≤ length tokens → IsWrong text tokens k
-  ended j k s r l i w = record {
-    place = w;
-    dead = λ m b.
-        let n : (t : Lexeme) × (m : List Lexeme) × (us : List Lexeme) × (drop j (lexemes text tokens) ≡ t ∷ us) × (take (suc k) (lexemes text tokens) ≡ take j (lexemes text tokens) ++ (t ∷ m)) =
-        take_longer j k (lexemes text tokens) l (subst (λ v. k < v) (sym count) m) in
-        r.ends n.0 n.2 n.3 (past _ r.front n.1 n.0 (n.4 ∙ ap (λ ts. ts ++ (n.0 ∷ n.1)) (sym (before_drop j (lexemes text tokens) r.front r.cut))) b);
-    none = λ o x d.
-        let n : (t : Lexeme) × (drop j (lexemes text tokens) ≡ t ∷ drop (suc j) (lexemes text tokens)) = drop_some j (lexemes text tokens) (subst (λ v. j < v) (sym count) i) in
-        r.ends n.0 _ n.1 (past (lexemes text tokens) r.front _ n.0 (r.cut ∙ ap (λ ts. r.front ++ ts) n.1) (whole (lexemes text tokens) (o, x, d)));
+  -- a source ends where another token stands
+  ended : (k : ℕ) (s : Source) → Reads base (all text) (low text) source_rule (lexemes text tokens) s (from text tokens k) → k < length tokens → IsWrong text tokens k
+  ended k s r w = record {
+    place = omega (arith, w);
+    alive = subst (λ ts. Begins base (all text) source_rule ts) (before_drop k (lexemes text tokens) r.front r.cut)
+        (whole r.front (r.ending, s, is_within base (low text) (all text) (setting text limits).within source_rule r.front r.ending s r.spelled));
+    dead = λ l b. r.ends n.0 _ n.1 (subst (λ ts. Begins base (all text) source_rule ts)
+        (take_next k (lexemes text tokens) _ n.0 n.1 ∙ ap (λ ts. ts ++ (n.0 ∷ [])) (sym (before_drop k (lexemes text tokens) r.front r.cut))) b);
+    none = λ o x d. r.ends n.0 _ n.1 (past (lexemes text tokens) r.front _ n.0 (r.cut ∙ ap (λ ts. r.front ++ ts) n.1) (whole (lexemes text tokens) (o, x, d)));
   }
+    where
+      n : (t : Lexeme) × (drop k (lexemes text tokens) ≡ t ∷ drop (suc k) (lexemes text tokens))
+      n = drop_some k (lexemes text tokens) (subst (λ v. k < v) (sym count) w)
 
   -- ---- modules one after the other
 
@@ -130,6 +119,18 @@ module _ (text : List ℕ) (tokens : List Token) where
     | begins o ↦ o
     | stops o ↦ absurd (reads_not_fails base (all text) (low text) (setting text limits).within module_rule _ _ _ x r.reads (fails_outside (setting text limits) refl refl o))
   ]
+
+  -- where none begins, the next token is the one that is told
+  at_once : (us k : ℕ) → us < length tokens → k ≤ length tokens → Outside base table module_rule (from text tokens us) → Fails base (all text) module_rule (from text tokens us) (from text tokens k) → k ≡ us
+  at_once us k l i o f = go f.front f.cut f.alive
+    where
+      go : (front : List Lexeme) → from text tokens us ≡ front ++ from text tokens k → Begins base (all text) module_rule front → k ≡ us
+      go [] e b =
+          let n : length tokens - us ≡ length tokens - k =
+          ap (λ m. m - us) (sym count) ∙ sym (length-drop us (lexemes text tokens)) ∙ ap length e ∙ length-drop k (lexemes text tokens) ∙ ap (λ m. m - k) count in
+          omega (arith, n, l, i)
+      go (t ∷ front) e b =
+          absurd (true_false _ ((facts_of base table (all text) (setting text limits).base (setting text limits).language module_rule refl).starts t (front ++ b.more) b.ending b.tree b.spelled) (o.out t _ e))
 
   -- what begins a tree has a first token
   high_opens : (us : ℕ) {ts : List Lexeme} → PassesLimit base (all text) (low text) module_rule (from text tokens us) ts → Opens base (all text) module_rule (from text tokens us)
@@ -172,8 +173,7 @@ module _ (text : List ℕ) (tokens : List Token) where
   source_stops error.NoMemory w l r = tt
   source_stops {us} (error.Syntax k) w l r = elim (next us) [
     | begins o ↦ wrong k r.why.0 (ways.last_stops w.begun.way (rounds.more_stops (setting text limits) w.begun.way.good w.standing o r.why.1))
-    | stops o ↦ ended us k _ (all_read w o)
-        (no_earlier us k (lexemes text tokens) r.why.1.front r.why.1.cut (subst (λ v. us < v) (sym count) l) (subst (λ v. k ≤ v) (sym count) r.why.0)) l r.why.0
+    | stops o ↦ subst (λ v. IsWrong text tokens v) (sym (at_once us k l r.why.0 o r.why.1)) (ended us _ (all_read w o) l)
   ]
   source_stops {us} (error.Depth k) w l r = deep k (ways.last_high w.begun.way (rounds.more_high (setting text limits) w.begun.way.good w.standing (high_opens us r.why) r.why))
 

@@ -91,9 +91,10 @@ IsSource text tokens s = (o : Bool) × IsSpelled base (low text) source_rule (le
 abbrev pub front : List ℕ → List Token → ℕ → List Lexeme
 front text tokens k = take k (lexemes text tokens)
 
--- no source's spelling begins with the tokens up to this one, or it is the end; and no source is spelled
+-- some source's spelling begins with the tokens before this one, but none with those up to it, or it is the end; and no source is spelled
 pub record IsWrong (text : List ℕ) (tokens : List Token) (k : ℕ) : Type 0 where
   pub place : k ≤ length tokens
+  pub alive : Begins base (all text) source_rule (front text tokens k)
   pub dead : k < length tokens → Begins base (all text) source_rule (front text tokens (suc k)) → ⊥
   pub none : (o : Bool) (s : Source) → IsSpelled base (all text) source_rule (lexemes text tokens) o s → ⊥
 

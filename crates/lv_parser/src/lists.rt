@@ -17,7 +17,7 @@ use std::alloc::Global;
 pub trait Entries {
     type Entry: Drop;
 
-    ghost grammar: { Self → Gram base Entry };
+    ghost grammar: { Self → Gram base Self.Entry };
 
     ghost good: { (x : Self) → is_good base table (rules.list (grammar x)) ≡ true };
 

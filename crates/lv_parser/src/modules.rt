@@ -131,9 +131,10 @@ fn module(alloc: Global, tokens: &Tokens, at: usize) -> Result<(Module, usize), 
 
 /// Reads the whole list of tokens.
 ///
-/// `Syntax(k)`: no source's spelling begins with the tokens up to the one with the number k, or k is their count; none is
-/// spelled by the list. `Depth(k)`: some source's spelling begins with them, and in each such source more than 200
-/// statements, targets or items nest, or an expression is higher than 200. IEEE 1364-2005, annex A.
+/// `Syntax(k)`: some source's spelling begins with the tokens before the one with the number k, and none with those up to it,
+/// or k is their count; none is spelled by the list. `Depth(k)`: some source's spelling begins with the tokens up to that one,
+/// and in each such source more than 200 statements, targets or items nest, or an expression is higher than 200.
+/// IEEE 1364-2005, annex A.
 pub fn read_source(alloc: Global, tokens: &Tokens) -> Result<Source, SyntaxError>
     ensures { MatchResult result (λ s. IsSource tokens.now.text tokens.now.list s) (λ e. RefusesSource tokens.now.text tokens.now.list e) }
 {

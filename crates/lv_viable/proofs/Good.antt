@@ -69,7 +69,7 @@ module _ {b : Base} {t : Table b} {all low : Language b} (s : Setting b t all lo
 
   -- where no tree begins with the next token nothing is read
   pub fails_outside : {A : Type 0} {g : Gram b A} {ts : List b.Token} → is_good b t g ≡ true → may_be_empty b g ≡ false → Outside b t g ts → Fails b all g ts ts
-  fails_outside z e f = absent_fails (absent_of z e f)
+  fails_outside {g = g} z e f = let w : (us : List b.Token) × Spelled b all g us = tree b t all s.base s.language g in absent_fails w.0 w.1 (absent_of z e f)
 
   pub call_outside : (r : b.Rule) {ts : List b.Token} → Outside b t (call r) ts → Fails b all (call r) ts ts
   call_outside r f = fails_outside refl refl f

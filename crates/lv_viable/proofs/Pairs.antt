@@ -96,6 +96,7 @@ module _ (b : Base) (all low : Language b) {A B : Type 0} (g : Gram b A) (h : Gr
     fails = λ rest r. record {
       front = p.front ++ r.front;
       cut = p.cut ∙ ap (λ v. p.front ++ v) r.cut ∙ sym (append_assoc p.front r.front rest);
+      alive = begins_right p.front r.front first r.alive;
       dead = λ t vs e c. r.dead t vs e (second all r.front rest t vs r.cut e (λ v d. d) (λ v d. d) c);
       none = λ z others q. nothing rest others r z.0 z.1 q;
     };
@@ -151,6 +152,7 @@ module _ (b : Base) (all low : Language b) {A B : Type 0} (g : Gram b A) (h : Gr
   fails ts rest p = record {
     front = p.front;
     cut = p.cut;
+    alive = begins_left p.front k.witness.0 k.witness.1 p.alive;
     dead = λ t us e c. stuck t us c.more e (split ((p.front ++ (t ∷ [])) ++ c.more) (c.ending, c.tree, c.spelled));
     none = λ z others q. nothing others z.0 z.1 q;
   }

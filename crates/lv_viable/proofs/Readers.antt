@@ -5,6 +5,7 @@ use Rattle.lv_viable.specs.Spelling.{Language, IsSpelled}
 use Rattle.lv_viable.specs.Nexts.{Next, Lacks}
 use Rattle.lv_viable.specs.Reading.{Begins, Reads, Fails}
 use Rattle.lv_viable.specs.At.{At}
+use Rattle.lv_viable.specs.Facts.{IsBase}
 use Rattle.lv_viable.proofs.Lists.{nil_cons, same_head, true_false}
 
 -- the head of what a front and a token of its rest begin
@@ -29,11 +30,12 @@ lacks_nothing = record { out = λ m us e. absurd (nil_cons m us (sym e)) }
 pub lacks_token : {b : Base} {p : b.Shape} {m : b.Token} {us : List b.Token} → b.fits p m ≡ false → Lacks b p (m ∷ us)
 lacks_token {b} {p} {m} {us} f = record { out = λ n vs e. subst (λ (v : b.Token). b.fits p v ≡ false) (same_head m n us vs e) f }
 
--- where no tree begins with the next token, or there is none, nothing is read there
-pub absent_fails : {b : Base} {all low : Language b} {A : Type 0} {g : Gram b A} {ts : List b.Token} → Absent b all low g ts → Fails b all g ts ts
-absent_fails {b} {all} {low} {A} {g} {ts} f = record {
+-- where no tree begins with the next token, or there is none, nothing is read there; but there is a tree
+pub absent_fails : {b : Base} {all low : Language b} {A : Type 0} {g : Gram b A} {ts : List b.Token} (us : List b.Token) → Spelled b all g us → Absent b all low g ts → Fails b all g ts ts
+absent_fails {b} {all} {low} {A} {g} {ts} us d f = record {
   front = [];
   cut = refl;
+  alive = record { more = us; ending = d.0; tree = d.1; spelled = d.2 };
   dead = λ t us e c. f.off t us c.more e (c.ending, c.tree, c.spelled);
   none = λ x others r. nothing r.front others r.cut (r.ending, x, r.spelled);
 }
@@ -86,8 +88,10 @@ one_absent {b} {all} {low} {p} {ts} f = record {
     clash : (m : b.Token) (vs : List b.Token) (x : b.Token) → m ∷ vs ≡ x ∷ [] → b.fits p x ≡ true → b.fits p m ≡ false → ⊥
     clash m vs x g h k = let q : x ≡ m = cc in true_false (b.fits p x) h (ap (b.fits p) q ∙ k)
 
-pub one_fails : {b : Base} {all : Language b} {p : b.Shape} {ts : List b.Token} → Lacks b p ts → Fails b all (one p) ts ts
-one_fails {all = all} f = absent_fails (one_absent {low = all} f)
+pub one_fails : {b : Base} {all : Language b} {p : b.Shape} {ts : List b.Token} → IsBase b → Lacks b p ts → Fails b all (one p) ts ts
+one_fails {b} {all} {p} i f =
+    let w : (t : b.Token) × (b.fits p t ≡ true) = i.witness p in
+    absent_fails (w.0 ∷ []) (false, w.0, (refl, w.1, refl)) (one_absent {low = all} f)
 
 pub one_opens : {b : Base} {l : Language b} (p : b.Shape) (t : b.Token) → b.fits p t ≡ true → Begins b l (one p) (t ∷ [])
 one_opens p t f = record { more = []; ending = false; tree = t; spelled = (refl, f, refl) }
@@ -119,6 +123,7 @@ at_case {b} {all} {low} {inner} {A} {B} {h} {g} {see} {ts} k = record {
   fails = λ rest r. record {
     front = r.front;
     cut = r.cut;
+    alive = begun r.front r.alive.more (k.into_all (r.front ++ r.alive.more) (r.alive.ending, r.alive.tree, r.alive.spelled));
     dead = λ t us e c. r.dead t us e (from_all r.front rest t us r.cut e c);
     none = λ x others q. nothing rest others x r q.front q.cut q.ending q.spelled q.ends;
   };

@@ -75,6 +75,7 @@ module _ (b : Base) (all low : Language b) {B : Type 0} (r : b.Rule) (p : b.Shap
     fails = λ rest a. record {
       front = q.front ++ (t ∷ a.front);
       cut = q.cut ∙ ap (λ v. q.front ++ (t ∷ v)) a.cut ∙ sym (append_assoc q.front (t ∷ a.front) rest);
+      alive = with_tail b all r p h q.front t a.front x first f a.alive;
       dead = λ s vs e c. a.dead s vs e (second all a.front s (λ v o z d. d) (λ v d. d) c);
       none = λ z others w. nothing rest others a z w (is_tailed b all r p h w.front (w.ending, z, w.spelled));
     };
@@ -155,6 +156,7 @@ module _ (b : Base) (all low : Language b) {B : Type 0} (r : b.Rule) (p : b.Shap
   fails ts rest a = record {
     front = a.front;
     cut = a.cut;
+    alive = bared b all r p h a.front a.alive;
     dead = λ t us e c. stuck t us c.more e (is_tailed b all r p h ((a.front ++ (t ∷ [])) ++ c.more) (c.ending, c.tree, c.spelled));
     none = λ z others w. nothing others z w (is_tailed b all r p h w.front (w.ending, z, w.spelled));
   }

@@ -60,7 +60,7 @@ then_one s w n = then s w (next_read n)
 -- it is not
 pub stop_one : {b : Base} {t : Table b} {all low inner : Language b} {A C : Type 0} {g : Gram b A} {p : b.Shape} {h : Gram b C} {ts us : List b.Token} {build : b.Token × C → A} →
     Setting b t all inner → Way b t all low g ts inner (both (one p) h) us build → Lacks b p us → Fails b all g ts us
-stop_one s w f = stop s w (one_fails f)
+stop_one s w f = stop s w (one_fails s.base f)
 
 -- the last part
 pub last_one : {b : Base} {t : Table b} {all low inner : Language b} {A : Type 0} {g : Gram b A} {p : b.Shape} {ts us vs : List b.Token} {m : b.Token} {build : b.Token → A} →
@@ -68,8 +68,8 @@ pub last_one : {b : Base} {t : Table b} {all low inner : Language b} {A : Type 0
 last_one {vs = vs} {m = m} w n = w.at.reads m vs (next_read n)
 
 pub last_not : {b : Base} {t : Table b} {all low inner : Language b} {A : Type 0} {g : Gram b A} {p : b.Shape} {ts us : List b.Token} {build : b.Token → A} →
-    Way b t all low g ts inner (one p) us build → Lacks b p us → Fails b all g ts us
-last_not {us = us} w f = w.at.fails us (one_fails f)
+    Setting b t all inner → Way b t all low g ts inner (one p) us build → Lacks b p us → Fails b all g ts us
+last_not {us = us} s w f = w.at.fails us (one_fails s.base f)
 
 pub last : {b : Base} {t : Table b} {all low inner : Language b} {A B : Type 0} {g : Gram b A} {h : Gram b B} {ts us rest : List b.Token} {build : B → A} {y : B} →
     Way b t all low g ts inner h us build → Reads b all inner h us y rest → Reads b all low g ts (build y) rest

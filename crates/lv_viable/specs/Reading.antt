@@ -1,5 +1,5 @@
--- What a reader's answer says of the tokens before it: a tree that goes no further, a token with which nothing goes on, or one
--- with which all that goes on passes a limit.
+-- What a reader's answer says of the tokens before it: a tree that goes no further, the first token with which nothing goes on,
+-- or one with which all that goes on passes a limit.
 use Rattle.std.specs.Prelude.{◌≡◌, List, [], ◌∷◌, ◌++◌, Bool}
 use Rattle.lv_viable.specs.Grammar.{Base, Gram}
 use Rattle.lv_viable.specs.Spelling.{Language, IsSpelled}
@@ -19,10 +19,11 @@ pub record Reads (b : Base) (all low : Language b) {A : Type 0} (g : Gram b A) (
   pub spelled : IsSpelled b low g front ending x
   pub ends : (t : b.Token) (us : List b.Token) → rest ≡ t ∷ us → Begins b all g (front ++ (t ∷ [])) → ⊥
 
--- nothing is read, and no tree's spelling begins with the tokens before `rest` and the next
+-- nothing is read: some tree's spelling begins with the tokens before `rest`, and none with them and the next
 pub record Fails (b : Base) (all : Language b) {A : Type 0} (g : Gram b A) (ts rest : List b.Token) : Type 0 where
   pub front : List b.Token
   pub cut : ts ≡ front ++ rest
+  pub alive : Begins b all g front
   pub dead : (t : b.Token) (us : List b.Token) → rest ≡ t ∷ us → Begins b all g (front ++ (t ∷ [])) → ⊥
   pub none : (x : A) (others : List b.Token) → Reads b all all g ts x others → ⊥
 

@@ -13,4 +13,4 @@ returns-then-is_mark-clause-answer c = λ d.
 pub returns-else-is_mark-clause-answer : goal.returns-else-is_mark-clause-answer
 returns-else-is_mark-clause-answer c = λ d.
     let o = absent c.args.tokens.now.text c.args.tokens.now.list (rules.list rules.named_conn) c.args.at (shapes.mark (codes ".")) refl (sym c.is_mark.ensures.answer ∙ c.if-is_mark.false) in
-    carried (to_right (through (begin rules.conns c.args.at refl)) o) c.list.result (c.list.ensures.answer d)
+    carried (to_right (through (begin rules.conns c.args.at refl)) o) c.list-else-is_mark.result (c.list-else-is_mark.ensures.answer d)

@@ -1,3 +1,4 @@
+pub mod Blanks
 pub mod Build
 pub mod Examples
 pub mod ExprFolds

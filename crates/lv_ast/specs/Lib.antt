@@ -1,7 +1,9 @@
 pub mod Folds
+pub mod Literals
 pub mod Names
 pub mod PlainNames
 pub mod Sources
 pub mod TokenLists
 pub mod Tokens
 pub mod Trees
+pub mod Words

@@ -2,6 +2,7 @@
 use Rattle.std.proofs.Common.{◌≡◌, ℕ, zero, suc, ◌+◌, ◌≤◌, ◌%◌, ◌^◌, nat_lt, List, [], ◌∷◌, ◌++◌, map, length, Bool, true, false, inl, inr, refl, sym, ◌∙◌, ap, subst, append_assoc, append-nil, arith, codes}
 use Rattle.std.proofs.Math.Nat.{zero-mod}
 use Rattle.std.proofs.lemmas.List.{map-append}
+use Rattle.lv_ast.specs.Tokens as tok
 use Rattle.lv_ast.specs.declared.tokens.Kind.{Kind}
 use Rattle.lv_ast.specs.declared.tokens.Kind.TheVariants as k
 use Rattle.lv_exprs.specs.declared.symbol.Name.{Name}
@@ -280,6 +281,7 @@ cast_token true = refl
 cast_token false = refl
 
 token_simple : (s : Symbol) → symbol_of (token_for s) ≡ simple s
+unfolding tok.digits_number tok.is_free tok.is_sign tok.digit_value tok.base_of tok.is_blank tok.without_blanks tok.without_sign tok.based_signed tok.based_base tok.based_digits
 token_simple (t.Name n) = refl
 token_simple (t.Number n) = refl
 token_simple (t.Based b) = refl

@@ -5,6 +5,7 @@ pub mod Expansions
 pub mod Folding
 pub mod Followed
 pub mod Fronts
+pub mod Gaps
 pub mod Leads
 pub mod Lines
 pub mod Literals

@@ -2,7 +2,7 @@
 use Rattle.std.proofs.Common.{◌≡◌, ℕ, zero, suc, ◌+◌, ◌*◌, ◌^◌, ◌<◌, ◌≤◌, Bool, true, false, ◌&&◌, if◌then◌else◌, ◌==◌, List, [], ◌∷◌, length, get_or, drop, refl, sym, ap, ◌∙◌, subst, arith, add-one, drop-cons}
 use Rattle.std.specs.Prelude.{nat_lt}
 use Rattle.std.proofs.lemmas.Bool.{false_from_ne_true, ltb-true, lt-ltb}
-use Rattle.lv_ast.specs.Tokens.{digits_number, is_sign, without_sign, without_blanks, tail, head_base, value_digit, free_digit, fits, based_base, based_digits}
+use Rattle.lv_ast.specs.Tokens.{digits_number, value_digit, free_digit, fits, based_base, based_digits}
 use Rattle.lv_ast.specs.declared.tokens.Kind.TheVariants.{Based}
 
 none : (f : ℕ → ℕ) (base a : ℕ) → digits_number f base a [] ≡ a
@@ -62,28 +62,12 @@ digits_pass f (suc b) s i a h e k l small =
     let low : digits_number f (suc b) 0 s < 2 ^ 128 = ltb-true _ _ t in
     small (omega (arith, all, up, low))))
 
--- ---- the letter s
-
-pub sign_some : (c : ℕ) (cs s : List ℕ) → s ≡ (c ∷ cs) → is_sign c ≡ true → cs ≡ without_sign s
-unfolding without_sign
-sign_some c cs s e h = sym (ap without_sign e ∙ ap (λ b. if b then cs else c ∷ cs) h)
-
-pub sign_other : (c : ℕ) (cs s : List ℕ) → s ≡ (c ∷ cs) → is_sign c ≡ false → s ≡ without_sign s
-unfolding without_sign
-sign_other c cs s e h = e ∙ sym (ap without_sign e ∙ ap (λ b. if b then cs else c ∷ cs) h)
-
-pub sign_none : (s : List ℕ) → s ≡ [] → s ≡ without_sign s
-unfolding without_sign
-sign_none s e = e ∙ sym (ap without_sign e)
-
 -- ---- the parts of a based token
 
-pub based_parts : (s a u t d : List ℕ) (b : ℕ) → a ≡ tail s → u ≡ without_sign a → b ≡ head_base u → t ≡ tail u → d ≡ without_blanks t → (v f : Bool) → v ≡ nat_lt (digits_number value_digit b 0 d) (2 ^ 128) → f ≡ nat_lt (digits_number (free_digit b) b 0 d) (2 ^ 128) → (v && f) ≡ fits Based s
-unfolding fits based_base based_digits
-based_parts s a u t d b ha hu hb ht hd v f hv hf =
-    let eu : u ≡ without_sign (tail s) = hu ∙ ap without_sign ha in
-    let eb : b ≡ based_base s = hb ∙ ap head_base eu in
-    let ed : d ≡ based_digits s = hd ∙ ap without_blanks (ht ∙ ap tail eu) in
-    subst (λ k. (v && f) ≡ (nat_lt (digits_number value_digit k 0 (based_digits s)) (2 ^ 128) && nat_lt (digits_number (free_digit k) k 0 (based_digits s)) (2 ^ 128))) eb
-    (subst (λ l. (v && f) ≡ (nat_lt (digits_number value_digit b 0 l) (2 ^ 128) && nat_lt (digits_number (free_digit b) b 0 l) (2 ^ 128))) ed
+pub based_parts : (s d : List ℕ) (b : ℕ) (v f : Bool) → b ≡ based_base s → d ≡ based_digits s →
+    v ≡ nat_lt (digits_number value_digit b 0 d) (2 ^ 128) → f ≡ nat_lt (digits_number (free_digit b) b 0 d) (2 ^ 128) → (v && f) ≡ fits Based s
+unfolding fits
+based_parts s d b v f hb hd hv hf =
+    subst (λ k. (v && f) ≡ (nat_lt (digits_number value_digit k 0 (based_digits s)) (2 ^ 128) && nat_lt (digits_number (free_digit k) k 0 (based_digits s)) (2 ^ 128))) hb
+    (subst (λ l. (v && f) ≡ (nat_lt (digits_number value_digit b 0 l) (2 ^ 128) && nat_lt (digits_number (free_digit b) b 0 l) (2 ^ 128))) hd
     (ap (λ x. x && f) hv ∙ ap (λ y. nat_lt (digits_number value_digit b 0 d) (2 ^ 128) && y) hf))

@@ -1,7 +1,6 @@
 -- The longest fronts of a text that pass a test.
-use Rattle.std.specs.Prelude.{◌≡◌, ℕ, suc, ◌<◌, ◌≤◌, Bool, true, false, not, ◌&&◌, nat_le, if◌then◌else◌, ◌==◌, List, [], ◌∷◌, length, take, bytes_eq, codes, Option, Some, None, MatchOption}
+use Rattle.std.specs.Prelude.{◌≡◌, ℕ, suc, ◌<◌, ◌≤◌, Bool, true, false, not, ◌&&◌, nat_le, if◌then◌else◌, ◌==◌, List, [], ◌∷◌, length, take, codes, Option, Some, None, MatchOption}
 use Rattle.std.specs.List.{list_any}
-use Rattle.std.specs.Borrow.{Bor}
 use Rattle.lv_ast.specs.Names.{is_inner, is_letter, is_keyword}
 use Rattle.lv_ast.specs.Tokens.{is_blank, is_digit, is_number_byte, is_printed, is_base_byte, is_word, is_mark}
 use Rattle.lv_ast.specs.declared.tokens.Kind.{Kind}
@@ -76,7 +75,3 @@ lead_of c =
     else (if c == 96 then Accent
     else (if c == 39 then Apostrophe
     else (if c == 10 then Newline else Other))))))
-
--- whether a table of words has this one
-abbrev pub is_among : List (Bor (List ℕ)) → List ℕ → Bool
-is_among words name = list_any (λ w. bytes_eq name w.now) words

@@ -1,22 +1,18 @@
 -- What stands at the front of a text.
 use Rattle.std.specs.Prelude.{◌≡◌, ◌==◌, ◌+◌, ◌*◌, if◌then◌else◌, ℕ, true, false, List, take, Some, None}
-use Rattle.lv_ast.specs.Tokens.{kind_of, fits, value_digit, free_digit}
+use Rattle.lv_ast.specs.Literals.{part_digit}
+use Rattle.lv_ast.specs.Tokens.{kind_of, fits}
+use Rattle.lv_ast.specs.declared.literals.DigitPart.{DigitPart}
 use Rattle.lv_ast.specs.TokenLists.{Opening, opening, gap_length, IsFirstToken}
 use Rattle.lv_ast.specs.TokenLists as lists
 use Rattle.lv_ast.specs.declared.tokens.Kind.{Kind}
-use Rattle.lv_lexer.specs.declared.literal.Part.{Part}
-use Rattle.lv_lexer.specs.declared.literal.Part.TheVariants.{Value, Free}
 use Rattle.lv_lexer.specs.declared.scan.Start.{Start}
 use Rattle.lv_lexer.specs.declared.scan.Start.TheVariants as start
 use Rattle.lv_lexer.specs.declared.scan.Piece.{Piece}
 use Rattle.lv_lexer.specs.declared.scan.Piece.TheVariants.{Gap, Token, BadLiteral, BadByte, Unclosed}
 
-abbrev pub part_digit : Part → ℕ → ℕ → ℕ
-part_digit Value base c = value_digit c
-part_digit Free base c = free_digit base c
-
 -- the number a with one more digit
-abbrev pub with_digit : Part → ℕ → ℕ → ℕ → ℕ
+abbrev pub with_digit : DigitPart → ℕ → ℕ → ℕ → ℕ
 with_digit part base a c = if c == 95 then a else a * base + part_digit part base c
 
 abbrev pub opening_of : Start → Opening

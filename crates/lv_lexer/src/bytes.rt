@@ -1,9 +1,10 @@
 #![tactic(auto, unfolding(lv_ast::specs::Tokens::is_blank, lv_ast::specs::Tokens::is_digit, lv_ast::specs::Tokens::is_number_byte, lv_ast::specs::Tokens::is_printed, lv_ast::specs::Tokens::is_free, lv_ast::specs::Tokens::is_sign, lv_ast::specs::Tokens::digit_value, lv_ast::specs::Tokens::base_of, lv_ast::specs::Tokens::is_base_digit, lv_ast::specs::Tokens::is_base_byte))]
 
 ghost use Rattle.std.specs.Prelude.{◌≡◌, ◌≤◌, [], ◌∷◌, length, take, drop, MatchOption};
-ghost use Rattle.lv_ast.specs.Names.{is_letter, is_inner};
 ghost use Rattle.lv_ast.specs.Tokens as tokens;
 ghost use Rattle.lv_lexer.specs.Fronts.{begins, belongs, front_length, lead_of};
+
+use lv_ast::{digit_value, is_blank, is_digit, is_free, is_inner};
 
 /// The classes of bytes whose longest front is looked for.
 #[derive(Clone, Copy)]
@@ -41,65 +42,6 @@ pub fn lead_of(byte: u8) -> Lead
         b'\'' => Lead::Apostrophe,
         b'\n' => Lead::Newline,
         _ => Lead::Other,
-    }
-}
-
-pub fn is_letter(byte: u8) -> bool
-    ensures { result ≡ is_letter byte }
-{
-    matches!(byte, b'a'..=b'z' | b'A'..=b'Z' | b'_')
-}
-
-pub fn is_digit(byte: u8) -> bool
-    ensures { result ≡ tokens.is_digit byte }
-{
-    matches!(byte, b'0'..=b'9')
-}
-
-pub fn is_blank(byte: u8) -> bool
-    ensures { result ≡ tokens.is_blank byte }
-{
-    matches!(byte, b' ' | b'\t' | 12 | b'\r')
-}
-
-fn is_inner(byte: u8) -> bool
-    ensures { result ≡ is_inner byte }
-{
-    is_letter(byte) || is_digit(byte) || byte == b'$'
-}
-
-pub fn is_free(byte: u8) -> bool
-    ensures { result ≡ tokens.is_free byte }
-{
-    matches!(byte, b'?' | b'Z' | b'z')
-}
-
-pub fn is_sign(byte: u8) -> bool
-    ensures { result ≡ tokens.is_sign byte }
-{
-    matches!(byte, b's' | b'S')
-}
-
-pub fn digit_value(byte: u8) -> u8
-    ensures { result ≡ tokens.digit_value byte }
-{
-    match byte {
-        b'0'..=b'9' => byte - b'0',
-        b'a'..=b'f' => byte - b'a' + 10,
-        b'A'..=b'F' => byte - b'A' + 10,
-        _ => 16,
-    }
-}
-
-pub fn base_of(byte: u8) -> u8
-    ensures { result ≡ tokens.base_of byte }
-{
-    match byte {
-        b'b' | b'B' => 2,
-        b'o' | b'O' => 8,
-        b'd' | b'D' => 10,
-        b'h' | b'H' => 16,
-        _ => 0,
     }
 }
 

@@ -226,7 +226,6 @@ fn else_branch(branch: Branch) -> Branch
 }
 
 /// What has been read: the macros and the open conditionals that then stand, and what was given.
-#[derive(Drop)]
 pub struct Fold {
     pub macros: Macros,
     /// The innermost is the last.
@@ -234,9 +233,36 @@ pub struct Fold {
     pub out: Output,
 }
 
+impl Drop for Fold {
+    fn drop(self) {
+        let Fold {
+            macros,
+            branches,
+            out,
+        } = self;
+        drop(macros);
+        drop(branches);
+        drop(out);
+    }
+}
+
 impl Fold {
     ghost use Rattle.lv_lexer.specs.Shown.{top_first};
     ghost use Rattle.lv_lexer.specs.Steps.{Steps, by_name, named_step, read_step, if_read};
+
+    /// What was given.
+    fn into_output(self) -> Output
+        ensures { result ≡ self.out }
+    {
+        let Fold {
+            macros,
+            branches,
+            out,
+        } = self;
+        drop(macros);
+        drop(branches);
+        out
+    }
 
     fn is_read(&self) -> bool
         ensures { result ≡ spec.is_read (top_first self.now.branches) }
@@ -572,12 +598,7 @@ fn fold_list(alloc: Global, text: &[u8], list: &[Token]) -> Result<Output, Direc
     if !fold.branches.is_empty() {
         return Err(DirectiveError::Unbalanced(text.len() as u64));
     }
-    let Fold {
-        out,
-        macros: _,
-        branches: _,
-    } = fold;
-    Ok(out)
+    Ok(fold.into_output())
 }
 
 /// What the directives make of a token list (IEEE 1364-2005, section 19): the tokens that are kept, with the uses of
@@ -596,6 +617,6 @@ pub fn directives(alloc: Global, tokens: Tokens) -> Result<Tokens, DirectiveErro
 {
     let out = fold_list(alloc, tokens.text.bytes(), tokens.list.as_slice())?;
     let list = out.into_list();
-    let Tokens { text, .. } = tokens;
+    let text = tokens.into_text();
     Ok(Tokens { list, text })
 }

@@ -5,12 +5,11 @@ ghost use Rattle.lv_lexer.specs.Fronts.{begins, begins_blank, IsFront, IsFound, 
 ghost use Rattle.lv_lexer.specs.Pieces.{opening_of, IsPiece};
 
 use crate::bytes::{
-    Class, Lead, base_of, begins, front, is_base_digit, is_blank, is_letter, is_printed, is_sign,
-    lead_of, prefix, skip, split,
+    Class, Lead, begins, front, is_base_digit, is_printed, lead_of, prefix, skip, split,
 };
 use crate::literal::fits;
-use crate::words::{is_head, is_keyword, is_mark};
-use lv_ast::Kind;
+use crate::words::{is_head, is_mark};
+use lv_ast::{Kind, base_of, is_blank, is_keyword, is_letter, is_sign};
 
 /// What begins at the front of a text, as far as comments go.
 #[derive(Clone, Copy)]

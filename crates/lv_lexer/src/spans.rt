@@ -4,8 +4,8 @@ ghost use Rattle.lv_ast.specs.Tokens as tokens;
 ghost use Rattle.lv_ast.specs.Folds as folds;
 ghost use Rattle.lv_lexer.specs.Shown.{first_of};
 
+use crate::bytes::split;
 use crate::error::DirectiveError;
-use crate::literal::after_first;
 use lv_ast::{Kind, Token};
 use sqlite_items::Items;
 use std::alloc::Global;
@@ -17,6 +17,15 @@ pub fn token_bytes(text: &[u8], token: Token) -> &[u8]
     let start = (token.start as usize).min(text.len());
     let end = (token.end as usize).min(text.len()).max(start);
     &text[start..end]
+}
+
+fn after_first(bytes: &[u8]) -> &[u8]
+    ensures { result.now ≡ tokens.tail bytes.now }
+{
+    match split(bytes) {
+        Some((_, rest)) => rest,
+        None => bytes,
+    }
 }
 
 /// The bytes of a tick behind its accent.

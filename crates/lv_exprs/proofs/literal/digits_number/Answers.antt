@@ -1,19 +1,28 @@
-use Rattle.std.proofs.Common.{◌%◌, ◌^◌, ◌+◌, ◌*◌, ap, sym, ◌∙◌, drop, get_or}
-use Rattle.lv_exprs.specs.Literals.{digits_number}
-use Rattle.lv_exprs.proofs.Digits.{digit_on, passed_on, dropped}
-use Rattle.lv_exprs.proofs.literal.digits_number.Goals.{then-not-is_passed, else-not-is_passed}
+use Rattle.std.proofs.Common.{◌+◌, ◌*◌, ◌%◌, drop, ◌<◌, ◌^◌, ◌∙◌, ap, sym, subst}
+use Rattle.std.proofs.Math.Nat.{mod-lt}
+use Rattle.std.proofs.Math.Pow.{pow_pos}
+use Rattle.lv_ast.specs.Literals.{part_digit}
+use Rattle.lv_ast.specs.Tokens.{digits_number}
+use Rattle.lv_exprs.proofs.Digits.{digit_on, passed_on, digits_end}
+use Rattle.lv_exprs.proofs.literal.digits_number.Goals.{then-c-ne95, else-c-ne95}
 use Rattle.lv_exprs.proofs.literal.digits_number.Goals as goal
 
 pub loop-c-preserved : goal.loop-c-preserved
 loop-c-preserved c =
-    let there = ap (λ cs. digits_number c.args.free c.args.base c.loop-c.number cs % 2 ^ 128) (sym (dropped c.args.digits.now c.loop-c.c-index c.loop-c-test.true)) ∙ c.loop-c.invariant in
-    elim c.if-not-is_passed.branch [
-      | then-not-is_passed w ↦
-          digit_on c.args.free c.args.base c.loop-c.number _ (get_or c.args.digits.now c.loop-c.c-index 0) (drop (c.loop-c.c-index + 1) c.args.digits.now) (sym c.is_passed.ensures ∙ w.if-not-is_passed.true)
-          (w.number-is ∙ ap (λ n. (c.loop-c.number * c.args.base % 2 ^ 128 + n) % 2 ^ 128) w.digit_bits.ensures)
-          ∙ there
-      | else-not-is_passed w ↦
-          ap (λ n. digits_number c.args.free c.args.base n (drop (c.loop-c.c-index + 1) c.args.digits.now) % 2 ^ 128) w.number-is
-          ∙ passed_on c.args.free c.args.base c.loop-c.number (get_or c.args.digits.now c.loop-c.c-index 0) (drop (c.loop-c.c-index + 1) c.args.digits.now) (sym c.is_passed.ensures ∙ w.if-not-is_passed.false)
-          ∙ there
+    let f = part_digit c.args.part c.args.base in
+    elim c.if-c-ne95.branch [
+      | then-c-ne95 w ↦
+          let is = w.number-is ∙ w.with_digit-number.ensures ∙ ap (λ n. (c.loop-c.number * c.args.base % 2 ^ 128 + n) % 2 ^ 128) w.part_digit.ensures in
+          record {
+            same = digit_on f c.args.base c.loop-c.number _ c.args.digits.now c.loop-c.c-index c.loop-c-test.true w.if-c-ne95.true is ∙ c.loop-c.invariant.same;
+            low = subst (λ n. n < 2 ^ 128) (sym (w.number-is ∙ w.with_digit-number.ensures)) (mod-lt _ {m = 2 ^ 128} (pow_pos 128));
+          }
+      | else-c-ne95 w ↦ record {
+        same = ap (λ n. digits_number f c.args.base n (drop (c.loop-c.c-index + 1) c.args.digits.now) % 2 ^ 128) w.number-is
+            ∙ passed_on f c.args.base c.loop-c.number c.args.digits.now c.loop-c.c-index c.loop-c-test.true w.if-c-ne95.false ∙ c.loop-c.invariant.same;
+        low = subst (λ n. n < 2 ^ 128) (sym w.number-is) c.loop-c.invariant.low;
+      }
     ]
+
+pub returns : goal.returns
+returns c = digits_end (part_digit c.args.part c.args.base) c.args.base c.args.before c.loop-c.number c.args.digits.now c.loop-c.c-index c.loop-c-test.false c.loop-c.invariant.same c.loop-c.invariant.low

@@ -14,7 +14,7 @@ returns c =
     let unstopped : (reading_of c.args.tokens.text c.args.tokens.list).stop ≡ None = ap (λ r. r.stop) all in
     let few : counted (reading_of c.args.tokens.text c.args.tokens.list) ≤ 500000 = subst (λ r. counted r ≤ 500000) (sym all) out.few in
     record {
-      text = λ i. c.args.tokens.text;
+      text = c.into_text-text.ensures;
       list = c.into_list-list.ensures ∙ ap (λ r. r.tokens) (sym all);
       unstopped = unstopped;
       few = few;
@@ -39,6 +39,7 @@ invariant_of-result c =
     let all : reading_of c.args.tokens.text c.args.tokens.list ≡ done out = (λ i. reading_of (sym c.bytes.ensures i) (sym c.as_slice.ensures i)) ∙ c.in_ok-out.ensures.ok in
     record {
       whole =
-          subst (λ l. are_tokens c.args.tokens.text l ≡ true) (sym (c.into_list-list.ensures ∙ ap (λ r. r.tokens) (sym all)))
-          (reading_passes (is_token c.args.tokens.text) c.args.tokens.text c.args.tokens.list c.args.tokens.whole);
+          subst (λ t. are_tokens t c.into_list-list.result ≡ true) (sym c.into_text-text.ensures)
+          (subst (λ l. are_tokens c.args.tokens.text l ≡ true) (sym (c.into_list-list.ensures ∙ ap (λ r. r.tokens) (sym all)))
+          (reading_passes (is_token c.args.tokens.text) c.args.tokens.text c.args.tokens.list c.args.tokens.whole));
     }

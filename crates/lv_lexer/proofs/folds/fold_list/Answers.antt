@@ -1,4 +1,5 @@
-use Rattle.std.proofs.Common.{sym, ◌∙◌, true≢false}
+use Rattle.std.proofs.Common.{sym, ap, ◌∙◌, true≢false}
+use Rattle.lv_lexer.specs.Readings.{done}
 use Rattle.std.proofs.lemmas.Result.{err_from_is_err_and}
 use Rattle.lv_lexer.proofs.Folding.{fold_start, fold_more, fold_refused, fold_end, fold_open}
 use Rattle.lv_lexer.proofs.folds.fold_list.Goals as goal
@@ -22,4 +23,4 @@ returns-then-not-is_empty-clause-err c =
     fold_open c.args.text.now c.args.list.now c.loop-token.rest.now c.loop-token.fold c.loop-token.invariant c.in_default.ensures (λ e. true≢false (sym (c.is_empty.ensures.1 e) ∙ c.if-not-is_empty.true))
 
 pub returns-clause-ok : goal.returns-clause-ok
-returns-clause-ok c = fold_end c.args.text.now c.args.list.now c.loop-token.rest.now c.loop-token.fold c.loop-token.invariant c.in_default.ensures (c.is_empty.ensures.0 c.if-not-is_empty.false)
+returns-clause-ok c = fold_end c.args.text.now c.args.list.now c.loop-token.rest.now c.loop-token.fold c.loop-token.invariant c.in_default.ensures (c.is_empty.ensures.0 c.if-not-is_empty.false) ∙ ap done (sym c.into_output.ensures)

@@ -1,5 +1,5 @@
 use Rattle.std.proofs.Common.{sym, subst, ◌<◌, ◌^◌, arith}
-use Rattle.lv_lexer.specs.Pieces.{part_digit}
+use Rattle.lv_ast.specs.Literals.{part_digit}
 use Rattle.lv_lexer.proofs.Literals.{digits_start, digits_more, digits_end, digits_pass}
 use Rattle.lv_lexer.proofs.literal.part_fits.Goals as goal
 

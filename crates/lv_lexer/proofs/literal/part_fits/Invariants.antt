@@ -1,6 +1,6 @@
 use Rattle.std.proofs.Common.{◌≡◌, ◌<◌, ◌^◌, drop}
 use Rattle.lv_ast.specs.Tokens.{digits_number}
-use Rattle.lv_lexer.specs.Pieces.{part_digit}
+use Rattle.lv_ast.specs.Literals.{part_digit}
 use Rattle.lv_lexer.proofs.literal.part_fits.Given as goal
 
 -- the number so far, and the digits that are left

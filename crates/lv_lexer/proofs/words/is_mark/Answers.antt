@@ -3,4 +3,4 @@ use Rattle.lv_lexer.proofs.words.is_mark.Goals as goal
 
 pub returns : goal.returns
 unfolding is_mark
-returns c = c.is_in.ensures
+returns c = c.is_listed.ensures

@@ -1,4 +1,4 @@
-ghost use Rattle.std.specs.Prelude.{◌≡◌, ◌≢◌, ℕ, ◌+◌, ◌<◌, ◌≤◌, Bool, false, not, ◌&&◌, [], ◌∷◌, ◌++◌, length, OnOk, OnErr, IfOk, IfSome, Option, Some, None, Ok, count_by, is_some, MatchOption};
+ghost use Rattle.std.specs.Prelude.{◌≡◌, ◌≢◌, ℕ, ◌+◌, ◌^◌, ◌<◌, ◌≤◌, Bool, false, not, ◌&&◌, [], ◌∷◌, ◌++◌, length, OnOk, OnErr, IfOk, IfSome, Option, Some, None, Ok, count_by, is_some, MatchOption};
 ghost use Rattle.lv_aig.specs.declared.edge.Edge.{Edge};
 ghost use Rattle.lv_aig.specs.Edges.{Nodes, gate_at, zero_edge, edge_bit, IsValuation, IsGraph, Grows, Gives, folded, ordered};
 
@@ -9,7 +9,6 @@ use std::collections::HashMap;
 use std::marker::Model;
 
 /// Gates over inputs, each pair of edges at most once.
-#[derive(Drop)]
 pub struct And {
     // The node after the constant stands first.
     nodes: Vec<Option<Gate>>,
@@ -26,6 +25,14 @@ impl Model for And {
     ghost view = { λ a. None ∷ a.nodes.items };
 
     ghost invariant = { λ a. IsGraph (None ∷ a.nodes.items) × Agrees (None ∷ a.nodes.items) a.shared };
+}
+
+impl Drop for And {
+    fn drop(self) {
+        let And { nodes, shared } = self;
+        drop(nodes);
+        drop(shared);
+    }
 }
 
 impl And {
@@ -99,6 +106,7 @@ impl And {
     pub fn nodes(&self) -> u64
         ensures is { result ≡ length self.now }
         ensures graph { IsGraph self.now }
+        ensures few { result < 2 ^ 63 }
     {
         self.nodes.len() as u64 + 1
     }

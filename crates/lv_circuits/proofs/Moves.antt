@@ -17,7 +17,7 @@ use Rattle.lv_circuits.specs.Words.{number, edge_bits, AllBelow, edge_at, GivesB
 use Rattle.lv_circuits.specs.Moves.{moved}
 use Rattle.lv_circuits.proofs.Numbers.{number_lt, any_set}
 use Rattle.lv_circuits.proofs.RowLaws.{bits_length}
-use Rattle.lv_circuits.proofs.Steps.{grows_refl, grows_trans, valuation_back}
+use Rattle.lv_aig.proofs.Graphs.{grows_refl, grows_trans, valuation_back}
 use Rattle.lv_circuits.proofs.More.{number_append, number_zeros, number_ones, number_drop, number_shifted, shifted_left, choice_bits, parts}
 
 -- ---- parts of parts

@@ -10,7 +10,7 @@ use Rattle.lv_circuits.specs.Words.{number, edge_bits, edge_at, GivesBits, zip_b
 use Rattle.lv_circuits.specs.Products.{IsMultipleAbove}
 use Rattle.lv_circuits.proofs.Numbers.{number_lt, number_sum, pow_cons}
 use Rattle.lv_circuits.proofs.RowLaws.{bits_length, zero_bit, wrapped}
-use Rattle.lv_circuits.proofs.Steps.{valuation_back}
+use Rattle.lv_aig.proofs.Graphs.{valuation_back}
 use Rattle.lv_circuits.proofs.More.{number_append, number_zeros, parts}
 use Rattle.lv_circuits.proofs.Moves.{bits_replicate, number_take_more, bit_of_edge}
 

@@ -15,7 +15,8 @@ use Rattle.lv_circuits.specs.Moves.{moved}
 use Rattle.lv_circuits.specs.Rows.{IsEven, IsApart}
 use Rattle.lv_circuits.proofs.Numbers.{number_not, any_set, pow_cons}
 use Rattle.lv_circuits.proofs.RowLaws.{same_word, as_single, bits_length, zero_bit, one_bit, sum_mod}
-use Rattle.lv_circuits.proofs.Steps.{grows_refl, grows_trans, valuation_back, below_end}
+use Rattle.lv_aig.proofs.Graphs.{grows_refl, grows_trans, valuation_back}
+use Rattle.lv_circuits.proofs.Steps.{below_end}
 use Rattle.lv_circuits.proofs.Joins.{turn}
 use Rattle.lv_circuits.proofs.More.{number_append, number_zeros, number_ones, top_edge}
 use Rattle.lv_circuits.proofs.Moves.{bits_replicate, number_left, number_right, below_replicate, below_append, below_same}

@@ -1,5 +1,6 @@
-ghost use Rattle.std.specs.Prelude.{◌≡◌, ℕ, ◌<◌, ◌≤◌, ◌↔◌, IfOk, MatchOption, IsTrue, List, false, true};
-ghost use Rattle.lv_clauses.specs.Literals.{Lit, has, negated, IsClause, IsClauseOf, IsWithin, HasPair, FoundNext};
+ghost use Rattle.std.specs.Prelude.{◌≡◌, ◌↔◌, IfOk, MatchOption, IsTrue};
+ghost use Rattle.std.specs.List.Sorted.{IsNonDecreasingBy};
+ghost use Rattle.lv_clauses.specs.Literals.{Lit, has, IsClause, IsClauseOf, IsWithin, HasPair};
 
 use crate::lit::Lit;
 use lv_bits::NoMemory;
@@ -7,9 +8,15 @@ use std::alloc::Global;
 use std::marker::Model;
 
 /// Literals, sorted by variable, each variable once.
-#[derive(Drop)]
 pub struct Clause {
     lits: Vec<Lit>,
+}
+
+impl Drop for Clause {
+    fn drop(self) {
+        let Clause { lits } = self;
+        drop(lits);
+    }
 }
 
 impl Model for Clause {
@@ -50,29 +57,55 @@ pub fn are_within(lits: &[Lit], vars: u64) -> bool
     true
 }
 
-/// Whether the literal should take the place of what was found.
-fn is_better(found: &Option<Lit>, x: Lit, last: u64) -> bool
-    ensures better { IsTrue result ↔ ((last < x.var) × MatchOption found.now (Unit {0}) (λ y. x.var < y.var)) }
-    ensures numbered { 1 ≤ x.var }
+/// Whether these are the same literals in the same order.
+pub fn are_same(lits: &[Lit], others: &[Lit]) -> bool
+    ensures { IsTrue result ↔ (lits.now ≡ others.now) }
 {
-    match found {
-        None => x.var() > last,
-        Some(y) => x.var() > last && x.var() < y.var(),
+    if lits.len() != others.len() {
+        return false;
     }
-}
-
-/// A literal with the least variable above `last`.
-fn next_after(lits: &[Lit], last: u64) -> Option<Lit>
-    ensures next { FoundNext lits.now last result }
-    ensures numbered { (l : Lit) → IsTrue (has lits.now l) → 1 ≤ l.var }
-{
-    let mut found: Option<Lit> = None;
-    for x in lits {
-        if is_better(&found, *x, last) {
-            found = Some(*x);
+    for (k, x) in lits.iter().enumerate() {
+        let y = others[k];
+        if x.var() != y.var() || x.neg() != y.neg() {
+            return false;
         }
     }
-    found
+    true
+}
+
+/// Whether the variables rise.
+fn is_clause(lits: &[Lit]) -> bool
+    ensures { IsTrue result → IsClause lits.now }
+{
+    let mut last = 0;
+    for x in lits {
+        if x.var() <= last {
+            return false;
+        }
+        last = x.var();
+    }
+    true
+}
+
+/// The clause of literals that are sorted by variable.
+fn merge(alloc: Global, sorted: &[Lit]) -> Result<Option<Clause>, NoMemory>
+    requires { IsNonDecreasingBy (λ l. l.var) sorted.now }
+    ensures { IfOk result (λ made. MatchOption made (HasPair sorted.now) (IsClauseOf sorted.now)) }
+{
+    let mut out = Vec::new(alloc);
+    let mut last = 0;
+    let mut neg = false;
+    for x in sorted {
+        if x.var() != last {
+            out.reserve(1)?;
+            out.push_reserved(*x);
+            last = x.var();
+            neg = x.neg();
+        } else if x.neg() != neg {
+            return Ok(None);
+        }
+    }
+    Ok(Some(Clause { lits: out }))
 }
 
 impl Clause {
@@ -80,17 +113,12 @@ impl Clause {
     pub fn of(alloc: Global, lits: &[Lit]) -> Result<Option<Clause>, NoMemory>
         ensures { IfOk result (λ made. MatchOption made (HasPair lits.now) (IsClauseOf lits.now)) }
     {
-        let mut out = Vec::new(alloc);
-        let mut last = 0;
-        while let Some(x) = next_after(lits, last) {
-            if has_lit(lits, x.negated()) {
-                return Ok(None);
-            }
-            out.reserve(1)?;
-            out.push_reserved(x);
-            last = x.var();
+        let mut sorted = Vec::from_slice(alloc, lits)?;
+        if is_clause(lits) {
+            return Ok(Some(Clause { lits: sorted }));
         }
-        Ok(Some(Clause { lits: out }))
+        sorted.sort_unstable_by_key(|x| x.var());
+        merge(alloc, sorted.as_slice())
     }
 
     pub fn lits(&self) -> &[Lit]

@@ -1,4 +1,4 @@
-ghost use Rattle.std.specs.Prelude.{◌≡◌, ◌≤◌, [], length, Some, OnErr, IfOk};
+ghost use Rattle.std.specs.Prelude.{◌≡◌, ◌≤◌, [], ◌∷◌, ◌++◌, take, length, Some, OnOk, OnErr, IfOk};
 ghost use Rattle.lv_clauses.specs.Literals.{IsClause, IsWithin};
 ghost use Rattle.lv_clauses.specs.Sets.{numbered};
 ghost use Rattle.lv_clauses.specs.Added.{IsAdded};
@@ -10,10 +10,16 @@ use std::alloc::Global;
 use std::marker::Model;
 
 /// Clauses, numbered from 1, over the variables from 1 to `vars`.
-#[derive(Drop)]
 pub struct ClauseSet {
     vars: u64,
     clauses: Vec<Clause>,
+}
+
+impl Drop for ClauseSet {
+    fn drop(self) {
+        let ClauseSet { vars: _, clauses } = self;
+        drop(clauses);
+    }
 }
 
 impl Model for ClauseSet {
@@ -46,11 +52,37 @@ impl ClauseSet {
         match Clause::of(*self.clauses.allocator(), lits)? {
             None => Ok(Added::Tautology),
             Some(clause) => {
-                self.clauses.reserve(1)?;
-                self.clauses.push_reserved(clause);
+                self.push(clause)?;
                 Ok(Added::Clause)
             }
         }
+    }
+
+    /// Adds a clause.
+    pub fn push(&mut self, clause: Clause) -> Result<(), NoMemory>
+        requires { IsWithin clause self.old.vars }
+        ensures ok { OnOk result (self.new ≡ record { vars = self.old.vars; clauses = self.old.clauses ++ clause ∷ [] }) }
+        ensures err { OnErr result (self.new ≡ self.old) }
+    {
+        let _ = clause.lits();
+        self.clauses.reserve(1)?;
+        self.clauses.push_reserved(clause);
+        Ok(())
+    }
+
+    /// Makes room for more clauses.
+    pub fn reserve(&mut self, more: u64) -> Result<(), NoMemory>
+        ensures { self.new ≡ self.old }
+    {
+        self.clauses.reserve(more as usize)?;
+        Ok(())
+    }
+
+    /// Keeps the first clauses.
+    pub fn cut(&mut self, len: u64)
+        ensures { self.new ≡ record { vars = self.old.vars; clauses = take len self.old.clauses } }
+    {
+        self.clauses.truncate(len as usize);
     }
 
     pub fn vars(&self) -> u64

@@ -16,7 +16,7 @@ pub struct And {
 }
 
 impl Model for And {
-    ghost use Rattle.std.specs.Prelude.{None, ◌∷◌};
+    ghost use Rattle.std.specs.Prelude.{None, ◌∷◌, length, ◌+◌, ◌^◌, ◌<◌};
     ghost use Rattle.lv_aig.specs.Edges.{Nodes, IsGraph};
     ghost use Rattle.lv_aig.specs.Shared.{Agrees};
 
@@ -24,7 +24,7 @@ impl Model for And {
 
     ghost view = { λ a. None ∷ a.nodes.items };
 
-    ghost invariant = { λ a. IsGraph (None ∷ a.nodes.items) × Agrees (None ∷ a.nodes.items) a.shared };
+    ghost invariant = { λ a. IsGraph (None ∷ a.nodes.items) × Agrees (None ∷ a.nodes.items) a.shared × (length a.nodes.items + 1 < 2 ^ 63) };
 }
 
 impl Drop for And {
@@ -52,7 +52,8 @@ impl And {
         ensures is { OnOk result (self.new ≡ self.old ++ None ∷ []) }
         ensures edge { IfOk result (λ e. e ≡ record { node = length self.old; neg = false }) }
     {
-        self.nodes.reserve(1)?;
+        // Room for one more than is needed: a graph has fewer than 2^63 nodes.
+        self.nodes.reserve(2)?;
         let node = self.nodes.len() as u64 + 1;
         self.nodes.push_reserved(None);
         Ok(Edge { node, neg: false })
@@ -128,7 +129,8 @@ impl And {
         ensures is { OnOk result (self.new ≡ self.old ++ Some gate ∷ []) }
         ensures edge { IfOk result (λ e. e ≡ record { node = length self.old; neg = false }) }
     {
-        self.nodes.reserve(1)?;
+        // Room for one more than is needed: a graph has fewer than 2^63 nodes.
+        self.nodes.reserve(2)?;
         let node = self.nodes.len() as u64 + 1;
         match self.shared.insert(gate, node) {
             Ok(_) => {

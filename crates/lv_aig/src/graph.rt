@@ -1,4 +1,4 @@
-ghost use Rattle.std.specs.Prelude.{◌≡◌, ◌≢◌, ℕ, ◌+◌, ◌<◌, ◌≤◌, Bool, false, not, ◌&&◌, [], ◌∷◌, ◌++◌, length, OnOk, OnErr, IfOk, IfSome, Option, Some, None, Ok, count_by, is_some, MatchOption};
+ghost use Rattle.std.specs.Prelude.{◌≡◌, ◌≢◌, ℕ, ◌+◌, ◌^◌, ◌<◌, ◌≤◌, Bool, false, not, ◌&&◌, [], ◌∷◌, ◌++◌, length, OnOk, OnErr, IfOk, IfSome, Option, Some, None, Ok, count_by, is_some, MatchOption};
 ghost use Rattle.lv_aig.specs.declared.edge.Edge.{Edge};
 ghost use Rattle.lv_aig.specs.Edges.{Nodes, gate_at, zero_edge, edge_bit, IsValuation, IsGraph, Grows, Gives, folded, ordered};
 
@@ -9,7 +9,6 @@ use std::collections::HashMap;
 use std::marker::Model;
 
 /// Gates over inputs, each pair of edges at most once.
-#[derive(Drop)]
 pub struct And {
     // The node after the constant stands first.
     nodes: Vec<Option<Gate>>,
@@ -17,7 +16,7 @@ pub struct And {
 }
 
 impl Model for And {
-    ghost use Rattle.std.specs.Prelude.{None, ◌∷◌};
+    ghost use Rattle.std.specs.Prelude.{None, ◌∷◌, length, ◌+◌, ◌^◌, ◌<◌};
     ghost use Rattle.lv_aig.specs.Edges.{Nodes, IsGraph};
     ghost use Rattle.lv_aig.specs.Shared.{Agrees};
 
@@ -25,7 +24,15 @@ impl Model for And {
 
     ghost view = { λ a. None ∷ a.nodes.items };
 
-    ghost invariant = { λ a. IsGraph (None ∷ a.nodes.items) × Agrees (None ∷ a.nodes.items) a.shared };
+    ghost invariant = { λ a. IsGraph (None ∷ a.nodes.items) × Agrees (None ∷ a.nodes.items) a.shared × (length a.nodes.items + 1 < 2 ^ 63) };
+}
+
+impl Drop for And {
+    fn drop(self) {
+        let And { nodes, shared } = self;
+        drop(nodes);
+        drop(shared);
+    }
 }
 
 impl And {
@@ -45,7 +52,8 @@ impl And {
         ensures is { OnOk result (self.new ≡ self.old ++ None ∷ []) }
         ensures edge { IfOk result (λ e. e ≡ record { node = length self.old; neg = false }) }
     {
-        self.nodes.reserve(1)?;
+        // Room for one more than is needed: a graph has fewer than 2^63 nodes.
+        self.nodes.reserve(2)?;
         let node = self.nodes.len() as u64 + 1;
         self.nodes.push_reserved(None);
         Ok(Edge { node, neg: false })
@@ -99,6 +107,7 @@ impl And {
     pub fn nodes(&self) -> u64
         ensures is { result ≡ length self.now }
         ensures graph { IsGraph self.now }
+        ensures few { result < 2 ^ 63 }
     {
         self.nodes.len() as u64 + 1
     }
@@ -120,7 +129,8 @@ impl And {
         ensures is { OnOk result (self.new ≡ self.old ++ Some gate ∷ []) }
         ensures edge { IfOk result (λ e. e ≡ record { node = length self.old; neg = false }) }
     {
-        self.nodes.reserve(1)?;
+        // Room for one more than is needed: a graph has fewer than 2^63 nodes.
+        self.nodes.reserve(2)?;
         let node = self.nodes.len() as u64 + 1;
         match self.shared.insert(gate, node) {
             Ok(_) => {

@@ -7,24 +7,18 @@ use Rattle.std.proofs.lemmas.List.Sums.{sum_by-cons}
 use Rattle.lv_bits.specs.Words.{Bits}
 use Rattle.lv_netlist.specs.Net.{Net, IsNet, IsWidth}
 use Rattle.lv_clauses.specs.Sets.{SetValue}
-use Rattle.lv_circuits.specs.Words.{number}
-use Rattle.lv_circuits.proofs.Numbers.{number_lt, pow_cons}
-use Rattle.lv_blast.specs.Encoding.{bits_from, words_from, count_bits, input_widths}
+use Rattle.lv_bits.specs.Digits.{number}
+use Rattle.lv_bits.proofs.Digits.{pow_cons}
+use Rattle.lv_bits.specs.Digits.{words_from}
+use Rattle.lv_blast.specs.Encoding.{count_bits, input_widths}
 use Rattle.lv_blast.specs.Encoded.{HasBits}
-
-length_bits : (v : ℕ → Bool) (k n : ℕ) → length (bits_from v k n) ≡ n
-length_bits v k zero = refl
-length_bits v k (suc n) = ap suc (length_bits v (k + 1) n)
-
-pub bits_lt : (v : ℕ → Bool) (k n : ℕ) → number (bits_from v k n) < 2 ^ n
-bits_lt v k n = subst (λ (m : ℕ). number (bits_from v k n) < 2 ^ m) (length_bits v k n) (number_lt (bits_from v k n))
 
 pub more_fits : (x n w b : ℕ) → x < 2 ^ n → n < w → w ≤ 128 → b < 2 → x * 2 + b < 2 ^ 128
 more_fits x n w b h lt le small =
     let p : 2 ^ suc n ≤ 2 ^ 128 = pow-le-pow_right {n = 2} (omega arith) (let q : suc n ≤ 128 = omega arith in q) in
     omega (arith, p, pow_cons n)
 
-sum_widths : (ps : List (List ℕ × ℕ)) → sum (map (λ p. p.1) ps) ≡ count_bits ps
+pub sum_widths : (ps : List (List ℕ × ℕ)) → sum (map (λ p. p.1) ps) ≡ count_bits ps
 sum_widths [] = refl
 sum_widths (p ∷ ps) = sum_by-cons (λ (x : ℕ). x) p.1 (map (λ p. p.1) ps) ∙ ap (λ (n : ℕ). p.1 + n) (sum_widths ps)
 

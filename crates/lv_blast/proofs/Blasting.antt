@@ -17,29 +17,16 @@ use Rattle.lv_aig.specs.declared.edge.Edge.{Edge}
 use Rattle.lv_aig.specs.declared.edge.Gate.{Gate}
 use Rattle.lv_aig.specs.Edges.{Nodes, edge_bit, IsValuation, IsGraph, Grows}
 use Rattle.lv_gates.specs.Encodes.{Encodes}
-use Rattle.lv_circuits.specs.Words.{number, word_of, edge_at, edge_bits, AllBelow, GivesWord}
-use Rattle.lv_blast.specs.Encoding.{bits_from, words_from, input_words, count_bits, goal_at, IsEncoding, word_at, HasWords, edges_from, edge_words, IsOpen, FitsPorts}
+use Rattle.lv_bits.specs.Digits.{number}
+use Rattle.lv_circuits.specs.Words.{word_of, edge_at, edge_bits, AllBelow, GivesWord}
+use Rattle.lv_bits.specs.Digits.{bits_from, words_from}
+use Rattle.lv_blast.specs.Encoding.{input_words, count_bits, goal_at, IsEncoding, word_at, HasWords, edges_from, edge_words, IsOpen, FitsPorts}
+use Rattle.lv_netlist.proofs.Nets.{at_end}
+use Rattle.lv_netlist.proofs.Words.{values_from-snoc}
+use Rattle.lv_aig.proofs.Graphs.{grows_trans, valuation_back}
+use Rattle.lv_clauses.specs.Sets.{AreClauses}
+use Rattle.lv_blast.proofs.Numbered.{from_one, same_above, satisfies_same}
 use Rattle.lv_blast.proofs.Exists.{exists}
-
-grows_trans : (a b c : Nodes) → Grows a b → Grows b c → Grows a c
-grows_trans a b c p q = record {
-  more = omega (arith, p.more, q.more);
-  same = λ k h. q.same k (omega (arith, p.more)) ∙ p.same k h;
-  gates = λ k h h'. elim (cases_lt k (length b)) [
-    | inl lt ↦ λ e. p.gates k h lt (sym (q.same k lt) ∙ e)
-    | inr ge ↦ q.gates k ge h'
-  ];
-}
-
-valuation_back : (old new : Nodes) (v : ℕ → Bool) → Grows old new → IsValuation new v → IsValuation old v
-valuation_back old new v s h = record {
-  zero = h.zero;
-  gates = λ k g lt e. h.gates k g (omega (arith, s.more)) (s.same k lt ∙ e);
-}
-
-values_from-snoc : (state inputs before : List Bits) (ns : List Typed) (t : Typed) → values_from state inputs before (ns ++ t ∷ []) ≡ values_from state inputs before ns ++ node_bits state inputs (values_from state inputs before ns) t.node ∷ []
-values_from-snoc state inputs before [] t = refl
-values_from-snoc state inputs before (n ∷ ns) t = values_from-snoc state inputs (before ++ node_bits state inputs before n.node ∷ []) ns t
 
 at_map : (v : ℕ → Bool) (words : List (List Edge)) (a : ℕ) → bits_at (map (word_of v) words) a ≡ word_of v (word_at words a)
 at_map v words a = get_or-map (word_of v) words a []
@@ -66,16 +53,6 @@ pub record AllWords (net : Net) (old now : Nodes) (ins : List (List Edge)) (k : 
   pub grows : Grows old now
   pub words_are : HasWords net k (length now) words
   pub is : (v : ℕ → Bool) → IsValuation now v → map (word_of v) words ≡ values_from [] (map (word_of v) ins) [] (take k net.nodes)
-
--- what holds of each place of a list holds of each place of the longer one
-at_end : {A : Type 0} (xs : List A) (x d : A) (P : ℕ → A → Type 0) → ((k : ℕ) → k < length xs → P k (get_or xs k d)) → P (length xs) x → (k : ℕ) → k < length (xs ++ x ∷ []) → P k (get_or (xs ++ x ∷ []) k d)
-at_end {A} xs x d P old last k h =
-    elim (cases_lt k (length xs)) [
-      | inl lt ↦ subst (P k) (sym (get_or-append xs (x ∷ []) d k lt)) (old k lt)
-      | inr ge ↦
-          let e : length xs ≡ k = omega (arith, length-append xs (x ∷ [])) in
-          subst (λ (j : ℕ). P j (get_or (xs ++ x ∷ []) j d)) e (subst (P (length xs)) (sym (get_or-append_seam xs x [] d)) last)
-    ]
 
 words_step : (net : Net) (k m n : ℕ) (words : List (List Edge)) (es : List Edge) → HasWords net k m words → m ≤ n → AllBelow n es → length es ≡ width_at net.nodes k → HasWords net (k + 1) n (words ++ es ∷ [])
 words_step net k m n words es h le below len = record {
@@ -155,15 +132,19 @@ of_one : (b : Bool) → bit b ≡ 1 → b ≡ true
 of_one true h = refl
 of_one false h = absurd (omega arith)
 
-pub encoding : (net : Net) (goal : ℕ) (first nodes : Nodes) (ins words : List (List Edge)) (edge : Edge) (bits : ℕ) (set : SetValue) → length first ≡ 1 + count_bits net.inputs → IsOpen first → Grows first nodes → IsGraph nodes → ins ≡ edge_words 1 net.inputs → HasWords net (length net.nodes) (length nodes) words → ((v : ℕ → Bool) → IsValuation nodes v → map (word_of v) words ≡ values_of net [] (map (word_of v) ins)) → goal < length net.nodes → width_at net.nodes goal ≡ 1 → edge ≡ edge_at (word_at words goal) 0 → bits ≡ count_bits net.inputs → Encodes nodes bits edge set → (IsDecidedAtRest set bits → IsDecidedBy set bits) → IsEncoding net goal set
-encoding net goal first nodes ins words edge bits set len open_ grows graph is_in have is within one at count enc law =
+pub encoding : (net : Net) (goal : ℕ) (first nodes : Nodes) (ins words : List (List Edge)) (edge : Edge) (bits : ℕ) (set : SetValue) → AreClauses set.vars set.clauses → length first ≡ 1 + count_bits net.inputs → IsOpen first → Grows first nodes → IsGraph nodes → ins ≡ edge_words 1 net.inputs → HasWords net (length net.nodes) (length nodes) words → ((v : ℕ → Bool) → IsValuation nodes v → map (word_of v) words ≡ values_of net [] (map (word_of v) ins)) → goal < length net.nodes → width_at net.nodes goal ≡ 1 → edge ≡ edge_at (word_at words goal) 0 → bits ≡ count_bits net.inputs → Encodes nodes bits edge set → (IsDecidedAtRest set bits → IsDecidedBy set bits) → IsEncoding net goal set
+encoding net goal first nodes ins words edge bits set clauses len open_ grows graph is_in have is within one at count enc law =
     let goal_is : (v : ℕ → Bool) → IsValuation nodes v → goal_at net goal (input_words net v) ≡ bit (edge_bit v edge) = λ v val.
     let e : values_of net [] (input_words net v) ≡ map (word_of v) words = ap (values_of net []) (sym (inputs_bits v 1 net.inputs)) ∙ (ap (λ (x : List (List Edge)). values_of net [] (map (word_of v) x)) (sym is_in) ∙ sym (is v val)) in
     let w : length (word_at words goal) ≡ 1 = have.widths goal within ∙ one in
     ap (λ (bs : List Bits). (bits_at bs goal).value) e ∙ (ap (λ (b : Bits). b.value) (at_map v words goal) ∙ (one_edge v (word_at words goal) w ∙ ap (λ (x : Edge). bit (edge_bit v x)) (sym at))) in
     record {
       vars = subst (λ (n : ℕ). n ≤ set.vars) count enc.vars;
-      meets = λ v z h. let s = enc.sound v z h in goal_is v s.0 ∙ ap bit s.1;
+      meets = λ v h.
+          let w : ℕ → Bool = from_one v in
+          let s = enc.sound w refl (satisfies_same v w (same_above v) set.vars set.clauses clauses h) in
+          let same : input_words net w ≡ input_words net v = inputs_same v w 1 net.inputs (λ i le lt. same_above v i le) in
+          ap (goal_at net goal) (sym same) ∙ (goal_is w s.0 ∙ ap bit s.1);
       met = λ v h.
           let x = exists nodes v graph in
           let agree : (k : ℕ) → 1 ≤ k → k ≤ count_bits net.inputs → x.0 k ≡ v k = λ k some le. x.2 k some (grows.same k (omega (arith, len)) ∙ open_ k (omega (arith, len))) in

@@ -6,21 +6,13 @@ use Rattle.lv_netlist.specs.Run.{values_of, bits_at}
 use Rattle.lv_clauses.specs.Sets.{SetValue}
 use Rattle.lv_clauses.specs.Values.{Satisfies}
 use Rattle.lv_clauses.specs.Decided.{IsDecidedBy}
-use Rattle.lv_gates.specs.Encodes.{HasNoEmpty}
+use Rattle.lv_clauses.specs.Sizes.{HasNoEmpty}
 use Rattle.lv_aig.specs.declared.edge.Edge.{Edge}
 use Rattle.lv_aig.specs.Edges.{Nodes, gate_at}
-use Rattle.lv_circuits.specs.Words.{number, AllBelow}
+use Rattle.lv_bits.specs.Digits.{words_from}
+use Rattle.lv_circuits.specs.Words.{AllBelow}
 
--- the values of the variables from k on, the lowest bit first
-abbrev pub bits_from : (ℕ → Bool) → ℕ → ℕ → List Bool
-bits_from values k zero = []
-bits_from values k (suc n) = values k ∷ bits_from values (k + 1) n
-
--- the words of these widths whose bits are the variables from k on
-abbrev pub words_from : (ℕ → Bool) → ℕ → List ℕ → List Bits
-words_from values k [] = []
-words_from values k (w ∷ ws) = record { width = w; value = number (bits_from values k w) } ∷ words_from values (k + w) ws
-
+-- the widths of the inputs, and their sum
 abbrev pub input_widths : Net → List ℕ
 input_widths net = map (λ input. input.1) net.inputs
 
@@ -39,7 +31,7 @@ goal_at net goal inputs = (bits_at (values_of net [] inputs) goal).value
 -- the first variables are the bits of the inputs, decide the set, and satisfy it exactly where the goal is 1
 pub record IsEncoding (net : Net) (goal : ℕ) (set : SetValue) : Type 0 where
   pub vars : count_bits net.inputs ≤ set.vars
-  pub meets : (values : ℕ → Bool) → values 0 ≡ false → Satisfies values set.clauses → goal_at net goal (input_words net values) ≡ 1
+  pub meets : (values : ℕ → Bool) → Satisfies values set.clauses → goal_at net goal (input_words net values) ≡ 1
   pub met : (values : ℕ → Bool) → goal_at net goal (input_words net values) ≡ 1 → (whole : ℕ → Bool) × (Satisfies whole set.clauses) × ((k : ℕ) → 1 ≤ k → k ≤ count_bits net.inputs → whole k ≡ values k)
   pub decided : IsDecidedBy set (count_bits net.inputs)
   pub no_empty : HasNoEmpty set.clauses

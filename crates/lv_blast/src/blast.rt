@@ -1,9 +1,14 @@
-ghost use Rattle.std.specs.Prelude.{◌≡◌, ℕ, ◌<◌, Bool, map, length, IfOk, [], ◌∷◌};
+ghost use Rattle.std.specs.Prelude.{◌≡◌, ℕ, ◌<◌, Bool, List, map, length, IfOk, [], ◌∷◌};
 ghost use Rattle.lv_netlist.specs.Run.{values_of};
 ghost use Rattle.lv_aig.specs.Edges.{Grows, IsValuation};
 ghost use Rattle.lv_circuits.specs.Words.{AllBelow, edge_at, word_of};
 ghost use Rattle.lv_netlist.specs.Net.{node_at, width_at, IsNet};
-ghost use Rattle.lv_blast.specs.Encoding.{input_widths, IsEncoding, FitsPorts, HasWords, word_at};
+ghost use Rattle.lv_clauses.specs.Sizes.{IsFew};
+ghost use Rattle.lv_gates.specs.Encodes.{CountsGates};
+ghost use Rattle.lv_blast.specs.Encoding.{input_widths, input_words, IsEncoding, FitsPorts, HasWords, word_at};
+ghost use Rattle.lv_netlist.specs.Net.{Net};
+ghost use Rattle.lv_netlist.specs.Fits.{FitsInputs, AreWords};
+ghost use Rattle.lv_bits.specs.Words.{Bits};
 
 use crate::encoded::Encoded;
 use crate::inputs::open_words;
@@ -64,11 +69,14 @@ fn all_words(
 
 /// The clauses by which the goal, a node of width 1, is 1, for a graph without registers. The first variables are the
 /// bits of the inputs, inputs in order and the lowest bit of each first.
+/// `NoMemory` where there is no room for the gates or the clauses.
 pub fn clauses_of(alloc: Global, graph: &Graph, goal: u64) -> Result<Encoded, NoMemory>
     requires combinational { graph.now.registers ≡ [] }
     requires within { goal < length graph.now.nodes }
     requires one { width_at graph.now.nodes goal ≡ 1 }
     ensures encodes { IfOk result (λ e. IsEncoding graph.now goal e.set) }
+    ensures gates { IfOk result (λ e. CountsGates e.set e.gates) }
+    ensures few { IfOk result (λ e. IsFew e.set) }
     ensures widths { IfOk result (λ e. e.widths ≡ input_widths graph.now) }
 {
     let mut and = And::new(alloc);
@@ -79,7 +87,16 @@ pub fn clauses_of(alloc: Global, graph: &Graph, goal: u64) -> Result<Encoded, No
     let edge = first(word(words.as_slice(), goal));
     let set = encode(alloc, &and, bits, edge)?;
     decided_sets_are_at_rest();
+    set.kept();
     let gates = and.len();
     let widths = widths_of(alloc, graph)?;
     Ok(Encoded::new(set, widths, gates))
 }
+
+/// The words of some values fit the inputs, and each list of words that fits them is that of some values. It does
+/// nothing: its contract is the law.
+pub fn inputs_are_bits()
+    ensures fit { (net : Net) (values : ℕ → Bool) → FitsInputs net (input_words net values) × AreWords (input_words net values) }
+    ensures each { (net : Net) (words : List Bits) → FitsInputs net words → AreWords words →
+        (values : ℕ → Bool) × (input_words net values ≡ words) }
+{}

@@ -2,8 +2,9 @@ ghost use Rattle.std.specs.Prelude.{◌≡◌, ℕ, ◌+◌, ◌^◌, ◌<◌, �
 ghost use Rattle.lv_bits.specs.Values.{bit};
 ghost use Rattle.lv_netlist.specs.Net.{Net, IsWidth};
 ghost use Rattle.lv_clauses.specs.Values.{values_of, IsModel};
-ghost use Rattle.lv_circuits.specs.Words.{number};
-ghost use Rattle.lv_blast.specs.Encoding.{bits_from, words_from, input_widths, goal_at, IsEncoding};
+ghost use Rattle.lv_bits.specs.Digits.{number};
+ghost use Rattle.lv_bits.specs.Digits.{bits_from, words_from};
+ghost use Rattle.lv_blast.specs.Encoding.{input_widths, goal_at, IsEncoding};
 
 use lv_bits::{NoMemory, Word};
 use lv_clauses::{Assignment, ClauseSet};
@@ -11,7 +12,6 @@ use std::alloc::Global;
 use std::marker::Model;
 
 /// A graph's goal as clauses.
-#[derive(Drop)]
 pub struct Encoded {
     set: ClauseSet,
     widths: Vec<u32>,
@@ -26,6 +26,14 @@ impl Model for Encoded {
     ghost view = { λ e. record { set = e.set; widths = e.widths.items; gates = e.gates } };
 
     ghost invariant = { λ e. HasBits e.set e.widths.items };
+}
+
+impl Drop for Encoded {
+    fn drop(self) {
+        let Encoded { set, widths, gates: _ } = self;
+        drop(set);
+        drop(widths);
+    }
 }
 
 impl Encoded {
@@ -62,6 +70,18 @@ impl Encoded {
         ensures { result ≡ self.now.gates }
     {
         self.gates
+    }
+
+    /// The number of bits of all inputs: these are the first variables.
+    pub fn bits(&self) -> u64
+        ensures is { result ≡ sum self.now.widths }
+        ensures within { result ≤ self.now.set.vars }
+    {
+        let mut bits = 0;
+        for width in self.widths.as_slice() {
+            bits += u64::from(*width);
+        }
+        bits
     }
 
     /// The inputs whose bits the assignment has, in order; they make the goal 1.

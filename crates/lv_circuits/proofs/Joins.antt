@@ -3,7 +3,7 @@ use Rattle.std.proofs.Common.{◌≡◌, ℕ, ◌<◌, Bool, true, false, not, �
 use Rattle.lv_aig.specs.declared.edge.Edge.{Edge}
 use Rattle.lv_aig.specs.Edges.{Nodes, edge_bit, IsValuation, Gives}
 use Rattle.lv_circuits.specs.Words.{xor}
-use Rattle.lv_circuits.proofs.Steps.{grows_trans, valuation_back}
+use Rattle.lv_aig.proofs.Graphs.{grows_trans, valuation_back}
 
 abbrev pub turn : Edge → Edge
 turn e = record { node = e.node; neg = not e.neg }

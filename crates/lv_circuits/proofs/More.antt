@@ -16,11 +16,13 @@ use lib.Signed.{lt_z}
 use Rattle.std.proofs.Math.Seq.{drop-cons}
 use Rattle.std.proofs.lemmas.List.{drop_all}
 use Rattle.lv_bits.specs.Values.{bit, is_less}
-use Rattle.lv_circuits.proofs.Steps.{grows_refl, grows_trans, valuation_back}
+use Rattle.lv_aig.proofs.Graphs.{grows_refl, grows_trans, valuation_back}
 use Rattle.lv_circuits.proofs.Joins.{turn, turn_bit}
 use Rattle.lv_circuits.proofs.RowLaws.{same_word, bits_length, both_lengths, one_bit, length_zip}
-use Rattle.lv_circuits.specs.Words.{number, edge_bits, word_of, AllBelow, edge_at, GivesBits, GivesWord, sum_bits, carry_out, zip_bits, fold_bits, xor}
-use Rattle.lv_circuits.proofs.Numbers.{number_lt, number_not, number_sum, length_sum, pow_cons, any_set}
+use Rattle.lv_bits.specs.Digits.{number}
+use Rattle.lv_circuits.specs.Words.{edge_bits, word_of, AllBelow, edge_at, GivesBits, GivesWord, sum_bits, carry_out, zip_bits, fold_bits, xor}
+use Rattle.lv_bits.proofs.Digits.{number_lt, pow_cons}
+use Rattle.lv_circuits.proofs.Numbers.{number_not, number_sum, length_sum, any_set}
 
 -- the bits of ys above those of xs
 pub number_append : (xs ys : List Bool) → number (xs ++ ys) ≡ number ys * 2 ^ length xs + number xs

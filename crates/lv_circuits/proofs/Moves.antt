@@ -13,11 +13,13 @@ use Rattle.lv_aig.specs.Edges.{Nodes, edge_bit, IsValuation, Gives, zero_edge}
 use Rattle.lv_bits.specs.Values.{bit}
 use Rattle.lv_circuits.specs.declared.shifts.Way.{Way}
 use Rattle.lv_circuits.specs.declared.shifts.Way.TheVariants.{Left, Right}
-use Rattle.lv_circuits.specs.Words.{number, edge_bits, AllBelow, edge_at, GivesBits, zip_bits, fold_bits}
+use Rattle.lv_bits.specs.Digits.{number}
+use Rattle.lv_circuits.specs.Words.{edge_bits, AllBelow, edge_at, GivesBits, zip_bits, fold_bits}
 use Rattle.lv_circuits.specs.Moves.{moved}
-use Rattle.lv_circuits.proofs.Numbers.{number_lt, any_set}
+use Rattle.lv_bits.proofs.Digits.{number_lt}
+use Rattle.lv_circuits.proofs.Numbers.{any_set}
 use Rattle.lv_circuits.proofs.RowLaws.{bits_length}
-use Rattle.lv_circuits.proofs.Steps.{grows_refl, grows_trans, valuation_back}
+use Rattle.lv_aig.proofs.Graphs.{grows_refl, grows_trans, valuation_back}
 use Rattle.lv_circuits.proofs.More.{number_append, number_zeros, number_ones, number_drop, number_shifted, shifted_left, choice_bits, parts}
 
 -- ---- parts of parts

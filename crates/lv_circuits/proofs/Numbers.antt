@@ -2,21 +2,12 @@
 use Rattle.std.proofs.Common.{◌≡◌, ℕ, ◌+◌, ◌*◌, ◌/◌, ◌%◌, ◌^◌, ◌<◌, Bool, true, false, not, ◌&&◌, ◌||◌, if◌then◌else◌, ◌==◌, List, [], ◌∷◌, length, map, refl, sym, ◌∙◌, ap, arith, bit_and, bit_or, bit_xor, count_ones, suc, zero-add}
 use Rattle.std.proofs.lemmas.Nat.{and_block, or_block, xor_block, ones_le_self}
 use Rattle.std.proofs.lemmas.Bool.Decides.{nat_tests}
-use Rattle.std.proofs.Math.Nat.{pow-suc, mul_assoc}
+use Rattle.std.proofs.Math.Nat.{mul_assoc}
 use Rattle.std.specs.Int.Count.{ones_step}
 use Rattle.lv_bits.specs.Values.{bit}
-use Rattle.lv_circuits.specs.Words.{number, zip_bits, fold_bits, xor, sum_bits, carry_out}
-
-pub bit_lt : (b : Bool) → bit b < 2
-bit_lt true = omega arith
-bit_lt false = omega arith
-
-pub pow_cons : (n : ℕ) → 2 ^ suc n ≡ 2 ^ n * 2
-pow_cons n = pow-suc 2 n
-
-pub number_lt : (bs : List Bool) → number bs < 2 ^ length bs
-number_lt [] = omega arith
-number_lt (b ∷ bs) = omega (arith, number_lt bs, bit_lt b, pow_cons (length bs))
+use Rattle.lv_bits.specs.Digits.{number}
+use Rattle.lv_bits.proofs.Digits.{bit_lt, pow_cons, number_lt}
+use Rattle.lv_circuits.specs.Words.{zip_bits, fold_bits, xor, sum_bits, carry_out}
 
 and_bit : (a b : Bool) → bit (a && b) ≡ bit_and (bit a) (bit b)
 and_bit true true = refl

@@ -6,11 +6,13 @@ use Rattle.std.proofs.Math.Seq.{take-length}
 use Rattle.lv_aig.specs.declared.edge.Edge.{Edge}
 use Rattle.lv_aig.specs.Edges.{Nodes, edge_bit, IsValuation, zero_edge}
 use Rattle.lv_bits.specs.Values.{bit}
-use Rattle.lv_circuits.specs.Words.{number, edge_bits, edge_at, GivesBits, zip_bits, sum_bits, carry_out}
+use Rattle.lv_bits.specs.Digits.{number}
+use Rattle.lv_circuits.specs.Words.{edge_bits, edge_at, GivesBits, zip_bits, sum_bits, carry_out}
 use Rattle.lv_circuits.specs.Products.{IsMultipleAbove}
-use Rattle.lv_circuits.proofs.Numbers.{number_lt, number_sum, pow_cons}
+use Rattle.lv_bits.proofs.Digits.{number_lt, pow_cons}
+use Rattle.lv_circuits.proofs.Numbers.{number_sum}
 use Rattle.lv_circuits.proofs.RowLaws.{bits_length, zero_bit, wrapped}
-use Rattle.lv_circuits.proofs.Steps.{valuation_back}
+use Rattle.lv_aig.proofs.Graphs.{valuation_back}
 use Rattle.lv_circuits.proofs.More.{number_append, number_zeros, parts}
 use Rattle.lv_circuits.proofs.Moves.{bits_replicate, number_take_more, bit_of_edge}
 

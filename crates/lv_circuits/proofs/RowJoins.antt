@@ -10,12 +10,15 @@ use Rattle.lv_aig.specs.declared.edge.Edge.{Edge}
 use Rattle.lv_aig.specs.Edges.{Nodes, edge_bit, IsValuation, Grows, Gives, zero_edge}
 use Rattle.lv_circuits.specs.declared.gates.Kind.{Kind}
 use Rattle.lv_circuits.specs.declared.shifts.Way.TheVariants.{Left, Right}
-use Rattle.lv_circuits.specs.Words.{number, edge_bits, word_of, AllBelow, edge_at, GivesBits, GivesWord, sum_bits, fold_bits, kind_bit}
+use Rattle.lv_bits.specs.Digits.{number}
+use Rattle.lv_circuits.specs.Words.{edge_bits, word_of, AllBelow, edge_at, GivesBits, GivesWord, sum_bits, fold_bits, kind_bit}
 use Rattle.lv_circuits.specs.Moves.{moved}
 use Rattle.lv_circuits.specs.Rows.{IsEven, IsApart}
-use Rattle.lv_circuits.proofs.Numbers.{number_not, any_set, pow_cons}
+use Rattle.lv_bits.proofs.Digits.{pow_cons}
+use Rattle.lv_circuits.proofs.Numbers.{number_not, any_set}
 use Rattle.lv_circuits.proofs.RowLaws.{same_word, as_single, bits_length, zero_bit, one_bit, sum_mod}
-use Rattle.lv_circuits.proofs.Steps.{grows_refl, grows_trans, valuation_back, below_end}
+use Rattle.lv_aig.proofs.Graphs.{grows_refl, grows_trans, valuation_back}
+use Rattle.lv_circuits.proofs.Steps.{below_end}
 use Rattle.lv_circuits.proofs.Joins.{turn}
 use Rattle.lv_circuits.proofs.More.{number_append, number_zeros, number_ones, top_edge}
 use Rattle.lv_circuits.proofs.Moves.{bits_replicate, number_left, number_right, below_replicate, below_append, below_same}

@@ -10,9 +10,11 @@ use Rattle.lv_bits.specs.Words.{Bits}
 use Rattle.lv_bits.specs.Values.{bit}
 use Rattle.lv_aig.specs.declared.edge.Edge.{Edge}
 use Rattle.lv_aig.specs.Edges.{Nodes, edge_bit, IsValuation, Gives, zero_edge}
-use Rattle.lv_circuits.specs.Words.{number, edge_at, edge_bits, GivesBits, GivesWord, zip_bits, fold_bits, xor, sum_bits, carry_out}
-use Rattle.lv_circuits.proofs.Numbers.{number_lt, number_and, number_or, number_xor, number_not, any_set, odd_set, number_sum, length_sum}
-use Rattle.lv_circuits.proofs.Steps.{grows_trans, valuation_back}
+use Rattle.lv_bits.specs.Digits.{number}
+use Rattle.lv_circuits.specs.Words.{edge_at, edge_bits, GivesBits, GivesWord, zip_bits, fold_bits, xor, sum_bits, carry_out}
+use Rattle.lv_bits.proofs.Digits.{number_lt}
+use Rattle.lv_circuits.proofs.Numbers.{number_and, number_or, number_xor, number_not, any_set, odd_set, number_sum, length_sum}
+use Rattle.lv_aig.proofs.Graphs.{grows_trans, valuation_back}
 use Rattle.lv_circuits.proofs.Joins.{turn, turn_bit}
 
 pub same_word : (w w' n n' : ℕ) → w ≡ w' → n ≡ n' → (let a : Bits = record { width = w; value = n } in let b : Bits = record { width = w'; value = n' } in a ≡ b)

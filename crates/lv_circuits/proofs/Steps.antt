@@ -6,26 +6,8 @@ use Rattle.std.proofs.lemmas.List.{map-append, length-map, drop_all}
 use Rattle.std.proofs.lemmas.Bool.{cases_lt}
 use Rattle.lv_aig.specs.declared.edge.Edge.{Edge}
 use Rattle.lv_aig.specs.Edges.{Nodes, edge_bit, IsValuation, Grows, Gives, zero_edge}
+use Rattle.lv_aig.proofs.Graphs.{grows_refl, grows_trans, valuation_back}
 use Rattle.lv_circuits.specs.Words.{edge_at, edge_bits, AllBelow, GivesBits, zip_bits, fold_bits, xor, sum_bits, carry_out}
-
-pub grows_refl : (xs : Nodes) → Grows xs xs
-grows_refl xs = record { more = omega arith; same = λ k h. refl; gates = λ k h h'. absurd (omega arith) }
-
-pub grows_trans : (a b c : Nodes) → Grows a b → Grows b c → Grows a c
-grows_trans a b c p q = record {
-  more = omega (arith, p.more, q.more);
-  same = λ k h. q.same k (omega (arith, p.more)) ∙ p.same k h;
-  gates = λ k h h'. elim (cases_lt k (length b)) [
-    | inl lt ↦ λ e. p.gates k h lt (sym (q.same k lt) ∙ e)
-    | inr ge ↦ q.gates k ge h'
-  ];
-}
-
-pub valuation_back : (old new : Nodes) (v : ℕ → Bool) → Grows old new → IsValuation new v → IsValuation old v
-valuation_back old new v s h = record {
-  zero = h.zero;
-  gates = λ k g lt e. h.gates k g (omega (arith, s.more)) (s.same k lt ∙ e);
-}
 
 pub below_more : (n m : ℕ) (es : List Edge) → n ≤ m → AllBelow n es → AllBelow m es
 below_more n m es h p = λ i lt. omega (arith, p i lt)

@@ -2,16 +2,11 @@
 use Rattle.std.specs.Prelude.{◌≡◌, ℕ, ◌+◌, ◌*◌, ◌<◌, Bool, not, ◌&&◌, ◌||◌, if◌then◌else◌, List, [], ◌∷◌, length, map}
 use Rattle.std.proofs.Common.{get_or}
 use Rattle.lv_bits.specs.Words.{Bits}
-use Rattle.lv_bits.specs.Values.{bit}
+use Rattle.lv_bits.specs.Digits.{number}
 use Rattle.lv_aig.specs.declared.edge.Edge.{Edge}
 use Rattle.lv_aig.specs.Edges.{Nodes, edge_bit, IsValuation, Grows, zero_edge}
 use Rattle.lv_circuits.specs.declared.gates.Kind.{Kind}
 use Rattle.lv_circuits.specs.declared.gates.Kind.TheVariants.{Both, Either, Differ}
-
--- the lowest bit first
-abbrev pub number : List Bool → ℕ
-number [] = 0
-number (b ∷ bs) = number bs * 2 + bit b
 
 abbrev pub edge_at : List Edge → ℕ → Edge
 edge_at es i = get_or es i zero_edge
@@ -24,6 +19,13 @@ word_of values es = record { width = length es; value = number (edge_bits values
 
 abbrev pub AllBelow : ℕ → List Edge → Type 0
 AllBelow n es = (i : ℕ) → i < length es → (edge_at es i).node < n
+
+-- two words of one width, with edges of a graph of n nodes
+pub record AreEven (n : ℕ) (x y : List Edge) : Type 0 where
+  pub a : AllBelow n x
+  pub b : AllBelow n y
+  pub same : length x ≡ length y
+  pub some : 0 < length x
 
 abbrev pub xor : Bool → Bool → Bool
 xor a b = if a then not b else b

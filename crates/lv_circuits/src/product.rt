@@ -1,7 +1,8 @@
 ghost use Rattle.std.specs.Prelude.{◌≡◌, ℕ, ◌+◌, ◌*◌, ◌^◌, ◌%◌, ◌<◌, Bool, length, IfOk};
 ghost use Rattle.lv_bits.specs.Values.{bit};
 ghost use Rattle.lv_aig.specs.Edges.{Grows, IsValuation, edge_bit};
-ghost use Rattle.lv_circuits.specs.Words.{AllBelow, edge_bits, number};
+ghost use Rattle.lv_bits.specs.Digits.{number};
+ghost use Rattle.lv_circuits.specs.Words.{AllBelow, edge_bits};
 ghost use Rattle.lv_circuits.specs.Products.{IsMultipleAbove};
 
 use crate::gates::Kind;

@@ -3,7 +3,8 @@ ghost use Rattle.lv_bits.specs.Words.{Bits};
 ghost use Rattle.lv_bits.specs.Values.{bit, unary_of, binary_of, is_less, is_unary, is_apart, extended};
 ghost use Rattle.lv_aig.specs.Edges.{Gives, IsValuation, edge_bit};
 ghost use Rattle.lv_circuits.specs.Rows.{IsEven, IsApart};
-ghost use Rattle.lv_circuits.specs.Words.{AllBelow, GivesBits, GivesWord, word_of, edge_bits, number, kind_bit};
+ghost use Rattle.lv_circuits.specs.Words.{AllBelow, AreEven, GivesBits, GivesWord, word_of, edge_bits, kind_bit};
+ghost use Rattle.lv_bits.specs.Digits.{number};
 
 use crate::gates::{Kind, gate, mux};
 use crate::product::product;
@@ -70,9 +71,7 @@ fn red_and(alloc: Global, and: &mut And, a: &[Edge]) -> Result<Items<Edge>, NoMe
 }
 
 fn and_word(alloc: Global, and: &mut And, a: &[Edge], b: &[Edge]) -> Result<Items<Edge>, NoMemory>
-    requires a { AllBelow (length and.old) a.now }
-    requires b { AllBelow (length and.old) b.now }
-    requires same { length a.now ≡ length b.now }
+    requires { AreEven (length and.old) a.now b.now }
     ensures { (signed : Bool) → IfOk result (λ es. GivesWord and.old and.new es (λ values. binary_of Op.And signed (word_of values a.now) (word_of values b.now))) }
 {
     let es = zip(alloc, and, Kind::Both, a, b)?;
@@ -80,9 +79,7 @@ fn and_word(alloc: Global, and: &mut And, a: &[Edge], b: &[Edge]) -> Result<Item
 }
 
 fn or_word(alloc: Global, and: &mut And, a: &[Edge], b: &[Edge]) -> Result<Items<Edge>, NoMemory>
-    requires a { AllBelow (length and.old) a.now }
-    requires b { AllBelow (length and.old) b.now }
-    requires same { length a.now ≡ length b.now }
+    requires { AreEven (length and.old) a.now b.now }
     ensures { (signed : Bool) → IfOk result (λ es. GivesWord and.old and.new es (λ values. binary_of Op.Or signed (word_of values a.now) (word_of values b.now))) }
 {
     let es = zip(alloc, and, Kind::Either, a, b)?;
@@ -90,9 +87,7 @@ fn or_word(alloc: Global, and: &mut And, a: &[Edge], b: &[Edge]) -> Result<Items
 }
 
 fn xor_word(alloc: Global, and: &mut And, a: &[Edge], b: &[Edge]) -> Result<Items<Edge>, NoMemory>
-    requires a { AllBelow (length and.old) a.now }
-    requires b { AllBelow (length and.old) b.now }
-    requires same { length a.now ≡ length b.now }
+    requires { AreEven (length and.old) a.now b.now }
     ensures { (signed : Bool) → IfOk result (λ es. GivesWord and.old and.new es (λ values. binary_of Op.Xor signed (word_of values a.now) (word_of values b.now))) }
 {
     let es = zip(alloc, and, Kind::Differ, a, b)?;
@@ -100,9 +95,7 @@ fn xor_word(alloc: Global, and: &mut And, a: &[Edge], b: &[Edge]) -> Result<Item
 }
 
 fn xnor_word(alloc: Global, and: &mut And, a: &[Edge], b: &[Edge]) -> Result<Items<Edge>, NoMemory>
-    requires a { AllBelow (length and.old) a.now }
-    requires b { AllBelow (length and.old) b.now }
-    requires same { length a.now ≡ length b.now }
+    requires { AreEven (length and.old) a.now b.now }
     ensures { (signed : Bool) → IfOk result (λ es. GivesWord and.old and.new es (λ values. binary_of Op.Xnor signed (word_of values a.now) (word_of values b.now))) }
 {
     let differ = zip(alloc, and, Kind::Differ, a, b)?;
@@ -111,9 +104,7 @@ fn xnor_word(alloc: Global, and: &mut And, a: &[Edge], b: &[Edge]) -> Result<Ite
 }
 
 fn add_word(alloc: Global, and: &mut And, a: &[Edge], b: &[Edge]) -> Result<Items<Edge>, NoMemory>
-    requires a { AllBelow (length and.old) a.now }
-    requires b { AllBelow (length and.old) b.now }
-    requires same { length a.now ≡ length b.now }
+    requires { AreEven (length and.old) a.now b.now }
     ensures { (signed : Bool) → IfOk result (λ es. GivesWord and.old and.new es (λ values. binary_of Op.Add signed (word_of values a.now) (word_of values b.now))) }
 {
     let zero = and.zero();
@@ -122,9 +113,7 @@ fn add_word(alloc: Global, and: &mut And, a: &[Edge], b: &[Edge]) -> Result<Item
 }
 
 fn sub_word(alloc: Global, and: &mut And, a: &[Edge], b: &[Edge]) -> Result<Items<Edge>, NoMemory>
-    requires a { AllBelow (length and.old) a.now }
-    requires b { AllBelow (length and.old) b.now }
-    requires same { length a.now ≡ length b.now }
+    requires { AreEven (length and.old) a.now b.now }
     ensures { (signed : Bool) → IfOk result (λ es. GivesWord and.old and.new es (λ values. binary_of Op.Sub signed (word_of values a.now) (word_of values b.now))) }
 {
     let turned = negate(alloc, and, b)?;
@@ -134,9 +123,7 @@ fn sub_word(alloc: Global, and: &mut And, a: &[Edge], b: &[Edge]) -> Result<Item
 }
 
 fn equal(alloc: Global, and: &mut And, a: &[Edge], b: &[Edge]) -> Result<Items<Edge>, NoMemory>
-    requires a { AllBelow (length and.old) a.now }
-    requires b { AllBelow (length and.old) b.now }
-    requires same { length a.now ≡ length b.now }
+    requires { AreEven (length and.old) a.now b.now }
     ensures { (signed : Bool) → IfOk result (λ es. GivesWord and.old and.new es (λ values. binary_of Op.Eq signed (word_of values a.now) (word_of values b.now))) }
 {
     let differ = zip(alloc, and, Kind::Differ, a, b)?;
@@ -147,9 +134,7 @@ fn equal(alloc: Global, and: &mut And, a: &[Edge], b: &[Edge]) -> Result<Items<E
 }
 
 fn unequal(alloc: Global, and: &mut And, a: &[Edge], b: &[Edge]) -> Result<Items<Edge>, NoMemory>
-    requires a { AllBelow (length and.old) a.now }
-    requires b { AllBelow (length and.old) b.now }
-    requires same { length a.now ≡ length b.now }
+    requires { AreEven (length and.old) a.now b.now }
     ensures { (signed : Bool) → IfOk result (λ es. GivesWord and.old and.new es (λ values. binary_of Op.Ne signed (word_of values a.now) (word_of values b.now))) }
 {
     let differ = zip(alloc, and, Kind::Differ, a, b)?;
@@ -179,9 +164,7 @@ pub fn mux_word(
 
 /// Whether `a` is below `b`, without sign.
 fn below(alloc: Global, and: &mut And, a: &[Edge], b: &[Edge]) -> Result<Edge, NoMemory>
-    requires a { AllBelow (length and.old) a.now }
-    requires b { AllBelow (length and.old) b.now }
-    requires same { length a.now ≡ length b.now }
+    requires { AreEven (length and.old) a.now b.now }
     ensures { IfOk result (λ e. Gives and.old and.new e (λ values. nat_lt (number (edge_bits values a.now)) (number (edge_bits values b.now)))) }
 {
     let turned = negate(alloc, and, b)?;
@@ -198,10 +181,7 @@ fn less(
     a: &[Edge],
     b: &[Edge],
 ) -> Result<Edge, NoMemory>
-    requires a { AllBelow (length and.old) a.now }
-    requires b { AllBelow (length and.old) b.now }
-    requires same { length a.now ≡ length b.now }
-    requires some { 0 < length a.now }
+    requires { AreEven (length and.old) a.now b.now }
     ensures { IfOk result (λ e. Gives and.old and.new e (λ values. is_less signed (length a.now) (number (edge_bits values a.now)) (number (edge_bits values b.now)))) }
 {
     let plain = below(alloc, and, a, b)?;
@@ -222,10 +202,7 @@ fn is_below(
     a: &[Edge],
     b: &[Edge],
 ) -> Result<Items<Edge>, NoMemory>
-    requires a { AllBelow (length and.old) a.now }
-    requires b { AllBelow (length and.old) b.now }
-    requires same { length a.now ≡ length b.now }
-    requires some { 0 < length a.now }
+    requires { AreEven (length and.old) a.now b.now }
     ensures { IfOk result (λ es. GivesWord and.old and.new es (λ values. binary_of Op.Lt signed (word_of values a.now) (word_of values b.now))) }
 {
     let less = less(alloc, and, signed, a, b)?;
@@ -240,10 +217,7 @@ fn is_above(
     a: &[Edge],
     b: &[Edge],
 ) -> Result<Items<Edge>, NoMemory>
-    requires a { AllBelow (length and.old) a.now }
-    requires b { AllBelow (length and.old) b.now }
-    requires same { length a.now ≡ length b.now }
-    requires some { 0 < length a.now }
+    requires { AreEven (length and.old) a.now b.now }
     ensures { IfOk result (λ es. GivesWord and.old and.new es (λ values. binary_of Op.Gt signed (word_of values a.now) (word_of values b.now))) }
 {
     let less = less(alloc, and, signed, b, a)?;
@@ -258,10 +232,7 @@ fn at_most(
     a: &[Edge],
     b: &[Edge],
 ) -> Result<Items<Edge>, NoMemory>
-    requires a { AllBelow (length and.old) a.now }
-    requires b { AllBelow (length and.old) b.now }
-    requires same { length a.now ≡ length b.now }
-    requires some { 0 < length a.now }
+    requires { AreEven (length and.old) a.now b.now }
     ensures { IfOk result (λ es. GivesWord and.old and.new es (λ values. binary_of Op.Le signed (word_of values a.now) (word_of values b.now))) }
 {
     let less = less(alloc, and, signed, b, a)?;
@@ -277,10 +248,7 @@ fn at_least(
     a: &[Edge],
     b: &[Edge],
 ) -> Result<Items<Edge>, NoMemory>
-    requires a { AllBelow (length and.old) a.now }
-    requires b { AllBelow (length and.old) b.now }
-    requires same { length a.now ≡ length b.now }
-    requires some { 0 < length a.now }
+    requires { AreEven (length and.old) a.now b.now }
     ensures { IfOk result (λ es. GivesWord and.old and.new es (λ values. binary_of Op.Ge signed (word_of values a.now) (word_of values b.now))) }
 {
     let less = less(alloc, and, signed, a, b)?;
@@ -348,9 +316,7 @@ fn logic(
 }
 
 fn mul_word(alloc: Global, and: &mut And, a: &[Edge], b: &[Edge]) -> Result<Items<Edge>, NoMemory>
-    requires a { AllBelow (length and.old) a.now }
-    requires b { AllBelow (length and.old) b.now }
-    requires same { length a.now ≡ length b.now }
+    requires { AreEven (length and.old) a.now b.now }
     ensures { (signed : Bool) → IfOk result (λ es. GivesWord and.old and.new es (λ values. binary_of Op.Mul signed (word_of values a.now) (word_of values b.now))) }
 {
     let es = product(alloc, and, a, b)?;
@@ -482,10 +448,7 @@ fn even(
     b: &[Edge],
 ) -> Result<Items<Edge>, NoMemory>
     requires even { IsEven op }
-    requires a { AllBelow (length and.old) a.now }
-    requires b { AllBelow (length and.old) b.now }
-    requires same { length a.now ≡ length b.now }
-    requires some { 0 < length a.now }
+    requires words { AreEven (length and.old) a.now b.now }
     ensures { IfOk result (λ es. GivesWord and.old and.new es (λ values. binary_of op signed (word_of values a.now) (word_of values b.now))) }
 {
     match op {

@@ -1,6 +1,7 @@
 ghost use Rattle.std.specs.Prelude.{◌≡◌, ℕ, ◌+◌, ◌^◌, ◌<◌, ◌≤◌, Bool, length, replicate, take, IfOk, if◌then◌else◌};
 ghost use Rattle.lv_aig.specs.Edges.{edge_bit};
-ghost use Rattle.lv_circuits.specs.Words.{AllBelow, GivesBits, edge_bits, number};
+ghost use Rattle.lv_bits.specs.Digits.{number};
+ghost use Rattle.lv_circuits.specs.Words.{AllBelow, GivesBits, edge_bits};
 ghost use Rattle.lv_circuits.specs.Moves.{moved};
 
 use crate::gates::Kind;

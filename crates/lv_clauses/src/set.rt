@@ -1,6 +1,6 @@
-ghost use Rattle.std.specs.Prelude.{◌≡◌, ◌≤◌, [], ◌∷◌, ◌++◌, take, length, Some, OnOk, OnErr, IfOk};
+ghost use Rattle.std.specs.Prelude.{◌≡◌, ◌≤◌, ◌<◌, ◌^◌, [], ◌∷◌, ◌++◌, take, length, Some, OnOk, OnErr, IfOk};
 ghost use Rattle.lv_clauses.specs.Literals.{IsClause, IsWithin};
-ghost use Rattle.lv_clauses.specs.Sets.{numbered};
+ghost use Rattle.lv_clauses.specs.Sets.{numbered, AreClauses};
 ghost use Rattle.lv_clauses.specs.Added.{IsAdded};
 
 use crate::clause::{Added, Clause};
@@ -105,5 +105,13 @@ impl ClauseSet {
         ensures within { IsWithin result.now self.now.vars }
     {
         &self.clauses[(id - 1) as usize]
+    }
+
+    /// Each clause is one over the variables, and there are fewer than 2^63. It does nothing: its contract is the law.
+    pub fn kept(&self)
+        ensures clauses { AreClauses self.now.vars self.now.clauses }
+        ensures few { length self.now.clauses < 2 ^ 63 }
+    {
+        let _ = self.clauses.len();
     }
 }

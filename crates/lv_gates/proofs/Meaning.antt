@@ -1,5 +1,7 @@
 -- What the clauses of a graph mean.
-use Rattle.std.proofs.Common.{◌≡◌, ◌≢◌, ℕ, ◌+◌, ◌-◌, ◌<◌, ◌≤◌, inl, inr, Bool, true, false, not, ◌&&◌, ◌||◌, if◌then◌else◌, ◌==◌, List, [], ◌∷◌, ◌++◌, length, map, refl, sym, ◌∙◌, ap, subst, arith, Option, Some, None, IsTrue, zero, suc}
+use Rattle.std.proofs.Common.{◌≡◌, ◌≢◌, ℕ, ◌+◌, ◌-◌, ◌<◌, ◌≤◌, inl, inr, Bool, true, false, not, ◌&&◌, ◌||◌, if◌then◌else◌, ◌==◌, List, [], ◌∷◌, ◌++◌, length, map, refl, sym, ◌∙◌, ap, subst, arith, Option, Some, None, IsTrue, zero, suc, ◌*◌, cond, length-append}
+use Rattle.std.specs.Prelude.{count_by, is_some}
+use Rattle.std.proofs.lemmas.List.Sums.{sum_by-cons}
 use Rattle.std.proofs.lemmas.Bool.{cases_lt, eqb-true}
 use Rattle.lv_aig.specs.declared.edge.Edge.{Edge}
 use Rattle.lv_aig.specs.declared.edge.Gate.{Gate}
@@ -9,7 +11,8 @@ use Rattle.lv_clauses.specs.Sets.{SetValue}
 use Rattle.lv_clauses.specs.Values.{is_satisfied, Satisfies}
 use Rattle.lv_clauses.specs.Decided.{signed, partial_value, rests, AreAtRest}
 use Rattle.lv_gates.specs.Lists.{yes, no, lit_of, three, clauses_from, goal_clauses, goal_vars}
-use Rattle.lv_gates.specs.Encodes.{HasInputs, HasNoEmpty, Encodes}
+use Rattle.lv_clauses.specs.Sizes.{HasNoEmpty}
+use Rattle.lv_gates.specs.Encodes.{HasInputs, Encodes, CountsGates}
 use Rattle.lv_clauses.specs.Literals.{Lit}
 
 abbrev any_true : List Bool → Bool
@@ -289,3 +292,28 @@ encodes nodes d goal set graph inputs vars list = record {
       i some (omega arith));
   no_empty = subst HasNoEmpty (sym list) (no_empty_append (clauses_from 0 nodes) (goal_clauses set.vars goal) (no_empty 0 nodes) (goal_no_empty set.vars (goal.node == 0) goal.node goal.neg));
 }
+
+counted : (k : ℕ) (ns : Nodes) → length (clauses_from k ns) ≡ 3 * count_by is_some ns
+counted k [] = refl
+counted k (None ∷ ns) = omega (arith, counted (k + 1) ns, sum_by-cons (λ (o : Option Gate). cond (is_some o) 1 0) None ns)
+counted k (Some g ∷ ns) = omega (arith, counted (k + 1) ns, sum_by-cons (λ (o : Option Gate). cond (is_some o) 1 0) (Some g) ns)
+
+goal_count : (n : ℕ) (b : Bool) (node : ℕ) (neg : Bool) → length (goals_by b n (record { node = node; neg = neg })) ≤ 2
+goal_count n true node true = omega arith
+goal_count n true node false = omega arith
+goal_count n false node neg = omega arith
+
+pub counts : (nodes : Nodes) (goal : Edge) (set : SetValue) → set.clauses ≡ clauses_from 0 nodes ++ goal_clauses set.vars goal → CountsGates set (count_by is_some nodes)
+counts nodes goal set list = (
+  length (goal_clauses set.vars goal),
+  goal_count set.vars (goal.node == 0) goal.node goal.neg,
+  omega (arith, ap length list, length-append (clauses_from 0 nodes) (goal_clauses set.vars goal), counted 0 nodes),
+)
+
+few_by : (n : ℕ) (b neg : Bool) → vars_by b n neg ≤ n
+few_by n true true = omega arith
+few_by n true false = omega arith
+few_by n false neg = omega arith
+
+pub few_vars : (n : ℕ) (goal : Edge) → goal_vars n goal ≤ n
+few_vars n goal = few_by n (goal.node == 0) goal.neg

@@ -1,7 +1,8 @@
-ghost use Rattle.std.specs.Prelude.{◌≡◌, ℕ, ◌+◌, ◌<◌, ◌≤◌, [], ◌∷◌, ◌++◌, length, OnOk, IfOk, true, false, not};
+ghost use Rattle.std.specs.Prelude.{◌≡◌, ℕ, ◌+◌, ◌<◌, ◌≤◌, [], ◌∷◌, ◌++◌, length, OnOk, IfOk, true, false, not, count_by, is_some};
 ghost use Rattle.lv_aig.specs.Edges.{gate_at};
 ghost use Rattle.lv_clauses.specs.Literals.{IsClause};
-ghost use Rattle.lv_gates.specs.Encodes.{HasInputs, Encodes};
+ghost use Rattle.lv_gates.specs.Encodes.{HasInputs, Encodes, CountsGates};
+ghost use Rattle.lv_clauses.specs.Sizes.{IsFew};
 ghost use Rattle.lv_gates.specs.Lists.{AreBelow, three, clauses_from, goal_clauses, goal_vars};
 
 use lv_aig::{And, Edge};
@@ -66,11 +67,13 @@ fn add_goal(set: &mut ClauseSet, goal: Edge) -> Result<(), NoMemory>
     add_clause(set, &[lit(goal)])
 }
 
-/// The clauses of a graph whose goal is to be 1.
+/// The clauses of a graph whose goal is to be 1: three for each gate, and at most two for the goal.
 pub fn encode(alloc: Global, graph: &And, inputs: u64, goal: Edge) -> Result<ClauseSet, NoMemory>
     requires inputs { HasInputs inputs graph.now }
     requires goal { goal.node < length graph.now }
-    ensures { IfOk result (λ s. Encodes graph.now inputs goal s) }
+    ensures encodes { IfOk result (λ s. Encodes graph.now inputs goal s) }
+    ensures gates { IfOk result (λ s. CountsGates s (count_by is_some graph.now)) }
+    ensures few { IfOk result (λ s. IsFew s) }
 {
     let nodes = graph.nodes();
     let constant = goal.node == 0 && !goal.neg;
@@ -82,5 +85,6 @@ pub fn encode(alloc: Global, graph: &And, inputs: u64, goal: Edge) -> Result<Cla
         }
     }
     add_goal(&mut set, goal)?;
+    set.kept();
     Ok(set)
 }

@@ -1,7 +1,7 @@
 use Rattle.std.proofs.Common.{◌≡◌, ◌<◌, ◌+◌, ◌-◌, ◌^◌, subst, sym, arith, ℕ}
 use Rattle.lv_clauses.specs.Values.{values_of}
-use Rattle.lv_circuits.proofs.Numbers.{bit_lt}
-use Rattle.lv_blast.proofs.Assigned.{bits_lt, more_fits}
+use Rattle.lv_bits.proofs.Digits.{bit_lt, bits_lt}
+use Rattle.lv_blast.proofs.Assigned.{more_fits}
 use Rattle.lv_blast.proofs.encoded.word_of.Goals as goal
 
 pub overflow_mul-value : goal.overflow_mul-value

@@ -1,7 +1,7 @@
 use Rattle.std.proofs.Common.{◌≡◌, ◌+◌, ◌-◌}
 use Rattle.lv_clauses.specs.Values.{values_of}
-use Rattle.lv_circuits.specs.Words.{number}
-use Rattle.lv_blast.specs.Encoding.{bits_from}
+use Rattle.lv_bits.specs.Digits.{number}
+use Rattle.lv_bits.specs.Digits.{bits_from}
 use Rattle.lv_blast.proofs.encoded.word_of.Given as goal
 
 abbrev pub invariant-loop-k : goal.invariant-loop-k

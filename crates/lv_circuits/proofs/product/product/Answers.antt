@@ -1,7 +1,8 @@
 use Rattle.std.proofs.Common.{◌<◌, ◌-◌, ◌∷◌, [], length, arith, ap, sym, ◌∙◌, refl, length-append}
 use Rattle.std.proofs.lemmas.List.{length-replicate, length-take-le}
 use Rattle.lv_aig.specs.declared.edge.Edge.{Edge}
-use Rattle.lv_circuits.proofs.Steps.{grows_refl, grows_trans, valuation_back, below_more, below_end}
+use Rattle.lv_aig.proofs.Graphs.{grows_refl, grows_trans, valuation_back}
+use Rattle.lv_circuits.proofs.Steps.{below_more, below_end}
 use Rattle.lv_circuits.proofs.Moves.{below_replicate, below_take, below_same}
 use Rattle.lv_circuits.proofs.Products.{product_first, product_more, product_last}
 use Rattle.lv_circuits.proofs.product.product.Goals as goal

@@ -1,6 +1,7 @@
 use Rattle.std.proofs.Common.{◌≡◌, ◌+◌, ◌-◌, ◌*◌, ◌^◌, ℕ, Bool, length, take}
 use Rattle.lv_aig.specs.Edges.{IsValuation, Grows}
-use Rattle.lv_circuits.specs.Words.{AllBelow, edge_bits, number}
+use Rattle.lv_bits.specs.Digits.{number}
+use Rattle.lv_circuits.specs.Words.{AllBelow, edge_bits}
 use Rattle.lv_circuits.specs.Products.{IsMultipleAbove}
 use Rattle.lv_circuits.proofs.product.product.Given as goal
 

@@ -1,7 +1,8 @@
 use Rattle.std.proofs.Common.{ℕ, length, not, refl, sym, ap}
 use Rattle.lv_bits.specs.Values.{bit, binary_of, is_less}
 use Rattle.lv_bits.specs.declared.op.Op.TheVariants.{Le}
-use Rattle.lv_circuits.specs.Words.{edge_bits, word_of, number}
+use Rattle.lv_bits.specs.Digits.{number}
+use Rattle.lv_circuits.specs.Words.{edge_bits, word_of}
 use Rattle.lv_circuits.proofs.RowLaws.{as_single, gives_turn}
 use Rattle.lv_circuits.proofs.rows.at_most.Goals as goal
 

@@ -1,7 +1,8 @@
 use Rattle.std.proofs.Common.{◌≡◌, Bool, true, length, sym, subst}
 use Rattle.lv_bits.specs.Values.{is_less}
 use Rattle.lv_aig.specs.Edges.{Gives}
-use Rattle.lv_circuits.specs.Words.{number, edge_bits}
+use Rattle.lv_bits.specs.Digits.{number}
+use Rattle.lv_circuits.specs.Words.{edge_bits}
 use Rattle.lv_circuits.proofs.More.{gives_signed}
 use Rattle.lv_circuits.proofs.rows.less.Goals as goal
 

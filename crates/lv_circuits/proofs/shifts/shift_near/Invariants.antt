@@ -1,6 +1,7 @@
 use Rattle.std.proofs.Common.{◌≡◌, length, take}
 use Rattle.lv_aig.specs.Edges.{edge_bit}
-use Rattle.lv_circuits.specs.Words.{GivesBits, edge_bits, number}
+use Rattle.lv_bits.specs.Digits.{number}
+use Rattle.lv_circuits.specs.Words.{GivesBits, edge_bits}
 use Rattle.lv_circuits.specs.Moves.{moved}
 use Rattle.lv_circuits.proofs.shifts.shift_near.Given as goal
 

@@ -2,7 +2,8 @@ use Rattle.std.proofs.Common.{◌<◌, ◌+◌, ◌∷◌, [], Bool, ℕ, List, 
 use Rattle.lv_aig.specs.declared.edge.Edge.{Edge}
 use Rattle.lv_aig.specs.Edges.{edge_bit}
 use Rattle.lv_circuits.specs.Words.{edge_bits, xor, sum_bits, carry_out}
-use Rattle.lv_circuits.proofs.Steps.{Partly, partly_step, sum_step, carry_step, valuation_back}
+use Rattle.lv_aig.proofs.Graphs.{valuation_back}
+use Rattle.lv_circuits.proofs.Steps.{Partly, partly_step, sum_step, carry_step}
 use Rattle.lv_circuits.proofs.words.add.Goals as goal
 
 pub loop-i-preserved : goal.loop-i-preserved

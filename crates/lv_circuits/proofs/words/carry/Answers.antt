@@ -1,7 +1,8 @@
 use Rattle.std.proofs.Common.{◌<◌, ◌+◌, Bool, length, drop, arith, sym, ◌∙◌, ap}
 use Rattle.lv_aig.specs.Edges.{edge_bit}
 use Rattle.lv_circuits.specs.Words.{edge_bits, carry_out}
-use Rattle.lv_circuits.proofs.Steps.{carry_step, valuation_back, grows_trans}
+use Rattle.lv_aig.proofs.Graphs.{valuation_back, grows_trans}
+use Rattle.lv_circuits.proofs.Steps.{carry_step}
 use Rattle.lv_circuits.proofs.words.carry.Goals as goal
 
 pub loop-i-preserved : goal.loop-i-preserved

@@ -1,7 +1,8 @@
 use Rattle.std.proofs.Common.{◌<◌, ◌+◌, Bool, length, drop, arith, sym, ◌∙◌, ap}
 use Rattle.lv_aig.specs.Edges.{edge_bit}
 use Rattle.lv_circuits.specs.Words.{edge_bits, fold_bits, kind_bit}
-use Rattle.lv_circuits.proofs.Steps.{grows_trans, valuation_back, fold_step}
+use Rattle.lv_aig.proofs.Graphs.{grows_trans, valuation_back}
+use Rattle.lv_circuits.proofs.Steps.{fold_step}
 use Rattle.lv_circuits.proofs.words.fold.Goals as goal
 
 pub loop-i-preserved : goal.loop-i-preserved

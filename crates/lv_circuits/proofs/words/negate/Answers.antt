@@ -2,7 +2,8 @@ use Rattle.std.proofs.Common.{◌<◌, ◌+◌, ◌∷◌, [], Bool, not, map, �
 use Rattle.lv_aig.specs.declared.edge.Edge.{Edge}
 use Rattle.lv_aig.specs.Edges.{Gives, edge_bit}
 use Rattle.lv_circuits.specs.Words.{edge_bits}
-use Rattle.lv_circuits.proofs.Steps.{Partly, partly_step, map_step, grows_refl}
+use Rattle.lv_aig.proofs.Graphs.{grows_refl}
+use Rattle.lv_circuits.proofs.Steps.{Partly, partly_step, map_step}
 use Rattle.lv_circuits.proofs.Joins.{turn_bit}
 use Rattle.lv_circuits.proofs.words.negate.Goals as goal
 

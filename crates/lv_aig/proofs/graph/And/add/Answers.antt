@@ -1,4 +1,4 @@
-use Rattle.std.proofs.Common.{◌≡◌, ◌≢◌, ◌<◌, ◌+◌, ℕ, None, Some, ◌∷◌, length, subst, sym, arith}
+use Rattle.std.proofs.Common.{◌≡◌, ◌≢◌, ◌<◌, ◌+◌, ℕ, None, Some, ◌∷◌, [], length, length-append, subst, sym, arith}
 use Rattle.lv_aig.specs.Edges.{Nodes, gate_at}
 use Rattle.lv_aig.proofs.Graphs.{with_gate}
 use Rattle.lv_aig.proofs.Sharing.{agrees_same, agrees_gate}
@@ -14,9 +14,10 @@ invariant_of-self-in-Ok c =
     rw (c.push_reserved.ensures.items, c.in_ok-reserve.ensures.items) (
       with_gate nodes c.args.gate c.self.invariant.0 c.requires.some c.requires.rise within fresh,
       agrees_gate nodes c.self.inside.shared c.insert.new.self c.args.gate (c.len.result + 1) at fresh c.in-Ok.ensures.updates c.self.invariant.1,
+      omega (arith, length-append c.self.inside.nodes.items (Some c.args.gate ∷ []), c.in_ok-reserve.ensures.capacity, c.reserve.new.self.small, c.self.inside.nodes.ok.0, c.in_ok-reserve.ensures.len),
     )
 
 pub invariant_of-self-in-Err : goal.invariant_of-self-in-Err
 invariant_of-self-in-Err c =
     rw c.in_ok-reserve.ensures.items
-    (c.self.invariant.0, agrees_same (None ∷ c.self.inside.nodes.items) c.self.inside.shared c.insert.new.self c.in-Err.ensures.err c.self.invariant.1)
+    (c.self.invariant.0, agrees_same (None ∷ c.self.inside.nodes.items) c.self.inside.shared c.insert.new.self c.in-Err.ensures.err c.self.invariant.1, c.self.invariant.2)

@@ -12,9 +12,15 @@ use std::alloc::Global;
 use std::marker::Model;
 
 /// What is needed to check lines over so many variables.
-#[derive(Drop)]
 pub struct Checker {
     marks: Vec<Mark>,
+}
+
+impl Drop for Checker {
+    fn drop(self) {
+        let Checker { marks } = self;
+        drop(marks);
+    }
 }
 
 impl Model for Checker {

@@ -8,9 +8,13 @@ mod circuits;
 #[cfg(test)]
 mod clauses;
 #[cfg(test)]
+mod costs;
+#[cfg(test)]
 mod gates;
 #[cfg(test)]
 mod propagation;
+#[cfg(test)]
+mod session;
 #[cfg(test)]
 mod simulation;
 #[cfg(test)]

@@ -3,10 +3,14 @@
 
 mod analyze;
 mod heap;
+mod keep;
+mod marked;
 mod minimize;
 mod order;
 mod resolve;
 mod seen;
+mod session;
 mod solve_set;
 
+pub use session::{Session, are_apart};
 pub use solve_set::{Answer, Work, solve, solve_counted};

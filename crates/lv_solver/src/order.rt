@@ -9,7 +9,6 @@ use std::alloc::Global;
 
 /// Which variables were in lines that were learnt, the later the more, the value that each had last, and when to begin anew.
 /// Nothing is claimed of it: what it suggests is looked at before it is used.
-#[derive(Drop)]
 pub struct Order {
     heap: Heap,
     signs: Vec<bool>,
@@ -17,6 +16,21 @@ pub struct Order {
     conflicts: u64,
     inner: u64,
     outer: u64,
+}
+
+impl Drop for Order {
+    fn drop(self) {
+        let Order {
+            heap,
+            signs,
+            step: _,
+            conflicts: _,
+            inner: _,
+            outer: _,
+        } = self;
+        drop(heap);
+        drop(signs);
+    }
 }
 
 /// The step at which all scores are made smaller.
@@ -54,6 +68,14 @@ impl Order {
             self.heap.shrink(MOST);
             self.step = 16;
         }
+    }
+
+    /// Waits for all variables again, with the scores that they have.
+    pub fn begin(&mut self) {
+        for k in 0..self.signs.len() {
+            self.heap.insert((k as u64).wrapping_add(1));
+        }
+        self.conflicts = 0;
     }
 
     /// Whether so many conflicts have been that the search should begin anew; the numbers grow as those of PicoSAT.

@@ -1,9 +1,9 @@
-ghost use Rattle.std.specs.Prelude.{◌≡◌, ℕ, ◌≤◌, length, IfOk, OnOk, false};
+ghost use Rattle.std.specs.Prelude.{◌≡◌, ℕ, ◌≤◌, [], length, IfOk, OnOk, false};
 ghost use Rattle.lv_clauses.specs.Literals.{has, IsClauseOf};
 ghost use Rattle.lv_trail.specs.Trail.{IsTrail, IsGrown, IsReached, truths};
 ghost use Rattle.lv_trail.specs.declared.store.Reached.TheVariants.{Conflict};
 ghost use Rattle.lv_solver.specs.Learning.{AreFalse, IsSteady};
-ghost use Rattle.lv_solver.specs.Solving.{AreKnown, IsPick, IsChoice, IsAnswer, Values, HasLearnt};
+ghost use Rattle.lv_solver.specs.Solving.{AreKnown, IsPick, IsChoice, IsAnswer, IsEnd, answer_of, Values, HasLearnt};
 
 use crate::analyze::{analyze, back_level, top_level};
 use crate::order::Order;
@@ -19,6 +19,14 @@ pub enum Answer {
     Model(Assignment),
     Refuted(Derivation),
     Budget(Derivation),
+}
+
+/// How a search ended: with values that satisfy the set, with an empty line, or with its budget spent.
+#[derive(Drop)]
+pub enum End {
+    Found(Assignment),
+    Empty,
+    Spent,
 }
 
 /// How many conflicts there were, how many literals became true by unit steps, and how many clauses were looked at for them.
@@ -145,14 +153,81 @@ fn learn(
 {
     let learnt = analyze(alloc, trail, seen, top, id, all)?;
     let clause = clause_of(alloc, trail, &learnt.lits)?;
+    // The log keeps copies, which have no room to spare.
     let copy = clause.copy(alloc)?;
-    log.push(Line::new(clause, learnt.hints))?;
-    Ok(copy)
+    let hints = Vec::from_slice(alloc, &learnt.hints)?;
+    log.push(Line::new(copy, hints))?;
+    Ok(clause)
 }
 
-/// Whether a set can be satisfied, by lines of which there are at most `budget`. Until half of them are written, variables that were
+/// Writes lines until a set is satisfied or refuted, or `budget` of them are written. Until there are `half` of them, variables that were
 /// in many lines are decided first, and a line is learnt at the first unique implication point; then the search goes back to level 0,
 /// decides variables in rising order, and learns the negations of the decisions that a conflict rests on.
+pub fn search(
+    alloc: Global,
+    set: &ClauseSet,
+    budget: u64,
+    half: u64,
+    order: &mut Order,
+    log: &mut Derivation,
+    work: &mut Work,
+) -> Result<End, NoMemory>
+    requires { log.old ≡ [] }
+    ensures { IfOk result (IsEnd set.now budget half log.new) }
+{
+    let vars = set.vars();
+    let mut trail = Trail::new(alloc, set)?;
+    let mut seen = Seen::new(alloc, vars)?;
+    let mut known = 0;
+    loop {
+        match propagate(&mut trail, work) {
+            Reached::Closed => {
+                let rising = log.len() >= half;
+                match choose(&trail, vars, order, rising, known) {
+                    None => return Ok(End::Found(values(alloc, &trail, vars)?)),
+                    Some(lit) => {
+                        known = if rising { lit.var() - 1 } else { 0 };
+                        trail.decide(lit);
+                    }
+                }
+            }
+            Reached::Conflict(id) => {
+                if log.len() >= budget {
+                    return Ok(End::Spent);
+                }
+                let top = top_level(&trail);
+                let root = top == 0;
+                let all = root || log.len() >= half;
+                let clause = learn(alloc, &trail, &mut seen, log, top, id, all)?;
+                if root {
+                    return Ok(End::Empty);
+                }
+                order.reward(clause.lits());
+                let at_half = log.len() == half;
+                let level = back_level(&trail, top, clause.lits(), at_half, order.is_due());
+                order.save(&trail, level);
+                trail.back(level);
+                trail.add(clause)?;
+                known = 0;
+            }
+        }
+    }
+}
+
+impl End {
+    /// The answer of a search that ended so, with these lines.
+    pub fn into_answer(self, log: Derivation) -> Answer
+        ensures { result ≡ answer_of self log }
+    {
+        match self {
+            End::Found(values) => Answer::Model(values),
+            End::Empty => Answer::Refuted(log),
+            End::Spent => Answer::Budget(log),
+        }
+    }
+}
+
+/// Whether a set can be satisfied, by lines of which there are at most `budget`: a search that decides in rising order from half of them on.
 pub fn solve(alloc: Global, set: &ClauseSet, budget: u64) -> Result<Answer, NoMemory>
     ensures { IfOk result (IsAnswer set.now budget) }
 {
@@ -169,44 +244,8 @@ pub fn solve_counted(
 ) -> Result<Answer, NoMemory>
     ensures { IfOk result (IsAnswer set.now budget) }
 {
-    let vars = set.vars();
-    let half = budget / 2;
-    let mut trail = Trail::new(alloc, set)?;
     let mut log = Derivation::new(alloc);
-    let mut order = Order::new(alloc, vars)?;
-    let mut seen = Seen::new(alloc, vars)?;
-    let mut known = 0;
-    loop {
-        match propagate(&mut trail, work) {
-            Reached::Closed => {
-                let rising = log.len() >= half;
-                match choose(&trail, vars, &mut order, rising, known) {
-                    None => return Ok(Answer::Model(values(alloc, &trail, vars)?)),
-                    Some(lit) => {
-                        known = if rising { lit.var() - 1 } else { 0 };
-                        trail.decide(lit);
-                    }
-                }
-            }
-            Reached::Conflict(id) => {
-                if log.len() >= budget {
-                    return Ok(Answer::Budget(log));
-                }
-                let top = top_level(&trail);
-                let root = top == 0;
-                let all = root || log.len() >= half;
-                let clause = learn(alloc, &trail, &mut seen, &mut log, top, id, all)?;
-                if root {
-                    return Ok(Answer::Refuted(log));
-                }
-                order.reward(clause.lits());
-                let at_half = log.len() == half;
-                let level = back_level(&trail, top, clause.lits(), at_half, order.is_due());
-                order.save(&trail, level);
-                trail.back(level);
-                trail.add(clause)?;
-                known = 0;
-            }
-        }
-    }
+    let mut order = Order::new(alloc, set.vars())?;
+    let end = search(alloc, set, budget, budget / 2, &mut order, &mut log, work)?;
+    Ok(end.into_answer(log))
 }

@@ -7,7 +7,7 @@ use Rattle.lv_clauses.proofs.Literals.{same_lit, either, has-head, has-later, ha
 use Rattle.lv_trail.specs.declared.store.Entry.{Entry}
 use Rattle.lv_trail.specs.declared.store.Store.{Store}
 use Rattle.lv_trail.specs.Store.{entries, IsSound, IsFree}
-use Rattle.lv_trail.specs.Trail.{no_entry, truths, value_by, value_in, IsLevelOf, IsReasonOf}
+use Rattle.lv_trail.specs.Trail.{no_entry, truths, value_by, value_in, IsLevelOf, IsReasonOf, IsPlaceOf}
 use Rattle.std.specs.Prelude.{Bool, Some, None}
 
 pub has-truths : (es : List Entry) (l : Lit) → has (truths es) l ≡ true → (k : ℕ) × (k < length es) × ((get_or es k no_entry).lit ≡ l)
@@ -88,6 +88,14 @@ pub reason-of : (t : Store) → IsSound t → (v r k : ℕ) → k < t.len → (g
 reason-of t s v r k b e f one =
     let is = get-take t.len t.slots.items k b in
     (k, omega (arith, entries-length t s), ap (λ z. z.lit.var) is ∙ e, ap (λ z. z.reason) is ∙ f, one)
+
+pub no-place-of : (t : Store) → IsSound t → (v : ℕ) → ((k : ℕ) → k < t.len → (get_or t.slots.items k no_entry).lit.var ≡ v → ⊥) → IsPlaceOf (entries t) v None
+no-place-of t s v h k b e =
+    let below : k < t.len = omega (arith, entries-length t s, b) in
+    h k below (sym (ap (λ z. z.lit.var) (get-take t.len t.slots.items k below)) ∙ e)
+
+pub found-at : (t : Store) → IsSound t → (v k : ℕ) → k < t.len → (get_or t.slots.items k no_entry).lit.var ≡ v → IsPlaceOf (entries t) v (Some k)
+found-at t s v k b e = (omega (arith, entries-length t s), ap (λ z. z.lit.var) (get-take t.len t.slots.items k b) ∙ e)
 
 -- the place of a variable
 pub var-placed : (t : Store) → IsSound t → (v p k : ℕ) → get_or t.places.items (v - 1) 0 ≡ p → k < t.len → (get_or t.slots.items k no_entry).lit.var ≡ v → p ≡ k + 1

@@ -60,6 +60,11 @@ abbrev pub IsReasonOf : List Entry → ℕ → Option ℕ → Type 0
 IsReasonOf es v None = (k : ℕ) → k < length es → (get_or es k no_entry).lit.var ≡ v → (get_or es k no_entry).reason ≡ 0
 IsReasonOf es v (Some r) = (k : ℕ) × (k < length es) × ((get_or es k no_entry).lit.var ≡ v) × ((get_or es k no_entry).reason ≡ r) × (1 ≤ r)
 
+-- the place of the variable's entry, none where it has no value
+abbrev pub IsPlaceOf : List Entry → ℕ → Option ℕ → Type 0
+IsPlaceOf es v None = (k : ℕ) → k < length es → (get_or es k no_entry).lit.var ≡ v → ⊥
+IsPlaceOf es v (Some p) = (p < length es) × ((get_or es p no_entry).lit.var ≡ v)
+
 -- each has a reason, and is of this level
 abbrev pub AllForced : ℕ → List Entry → Type 0
 AllForced n [] = Unit {0}

@@ -2,7 +2,7 @@ ghost use Rattle.std.specs.Prelude.{◌≡◌, ℕ, ◌+◌, ◌-◌, ◌<◌, �
 ghost use Rattle.lv_clauses.specs.Literals.{Lit as Literal, has, negated, IsClause, IsWithin};
 ghost use Rattle.lv_clauses.specs.Sets.{numbered};
 ghost use Rattle.lv_trail.specs.Store.{entries, IsSound, IsFree, IsStep, IsSame, IsReached, IsCut, IsGrown, IsPopped};
-ghost use Rattle.lv_trail.specs.Trail.{no_entry, truths, value_in, IsReason, IsReasonOf, IsLevelOf, IsClosed};
+ghost use Rattle.lv_trail.specs.Trail.{no_entry, truths, value_in, IsReason, IsReasonOf, IsPlaceOf, IsLevelOf, IsClosed};
 
 use crate::arena::Arena;
 use lv_bits::NoMemory;
@@ -123,6 +123,19 @@ impl Store {
         }
         let reason = self.slots[(place - 1) as usize].reason;
         if reason == 0 { None } else { Some(reason) }
+    }
+
+    /// The place of a variable that has a value.
+    pub fn place(&self, var: u64) -> Option<u64>
+        requires sound { IsSound self.now }
+        requires within { (1 ≤ var) × (var ≤ self.now.vars) }
+        ensures { IsPlaceOf (entries self.now) var result }
+    {
+        let place = self.places[(var - 1) as usize];
+        if place == 0 {
+            return None;
+        }
+        Some(place - 1)
     }
 
     /// The level of a variable that has a value.

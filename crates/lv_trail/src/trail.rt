@@ -1,7 +1,7 @@
 ghost use Rattle.std.specs.Prelude.{◌≡◌, ◌≢◌, ℕ, ◌+◌, ◌<◌, ◌≤◌, [], ◌∷◌, ◌++◌, length, IfOk, OnOk, OnErr, Some, None};
 ghost use Rattle.lv_clauses.specs.Literals.{IsWithin};
 ghost use Rattle.lv_clauses.specs.Sets.{numbered};
-ghost use Rattle.lv_trail.specs.Trail.{entry, truths, value_in, IsTrail, IsFree, IsSame, IsGrown, IsReached, IsCut, IsClosed, IsReasonOf, IsLevelOf};
+ghost use Rattle.lv_trail.specs.Trail.{entry, truths, value_in, IsTrail, IsFree, IsSame, IsGrown, IsReached, IsCut, IsClosed, IsReasonOf, IsPlaceOf, IsLevelOf};
 
 use crate::store::Reached;
 use crate::watched::Watched;
@@ -12,9 +12,15 @@ use std::marker::Model;
 
 /// Clauses, and literals that are true, in the order in which they became so. A literal that is decided begins a level;
 /// any other one has a reason, a clause whose other literals were false before.
-#[derive(Drop)]
 pub struct Trail {
     watched: Watched,
+}
+
+impl Drop for Trail {
+    fn drop(self) {
+        let Trail { watched } = self;
+        drop(watched);
+    }
 }
 
 impl Model for Trail {
@@ -78,6 +84,14 @@ impl Trail {
         ensures { IsReasonOf self.now.entries var result }
     {
         self.watched.store.reason(var)
+    }
+
+    /// The place of a variable's literal, from 0, none where it has no value.
+    pub fn place(&self, var: u64) -> Option<u64>
+        requires { (1 ≤ var) × (var ≤ self.now.vars) }
+        ensures { IsPlaceOf self.now.entries var result }
+    {
+        self.watched.store.place(var)
     }
 
     /// The literals of the clause of this number, from 1.

@@ -1,0 +1,5 @@
+pub mod Examples
+pub mod Matched
+pub mod Parsed
+pub mod Texts
+pub mod Written

@@ -1,5 +1,6 @@
 pub mod Apart
 pub mod Blocks
+pub mod Bounds
 pub mod Bridges
 pub mod Build
 pub mod Carried

@@ -69,7 +69,7 @@ pub in_sorted : (x : ℕ × Declared) (ds : List (ℕ × Declared)) → In x (by
 in_sorted x [] h = absurd h
 in_sorted x (d ∷ ds) h = elim (in_put x d (by_place ds) h) [ inl e ↦ inl e | inr k ↦ inr (in_sorted x ds k) ]
 
-in_numbered : (kx : ℕ × Declaration) (xs : List Declaration) (j : ℕ) → In kx (numbered_from j xs) → In kx.1 xs
+pub in_numbered : (kx : ℕ × Declaration) (xs : List Declaration) (j : ℕ) → In kx (numbered_from j xs) → In kx.1 xs
 in_numbered kx [] j h = absurd h
 in_numbered kx (x ∷ xs) j (inl e) = inl (ap (λ (z : ℕ × Declaration). z.1) e)
 in_numbered kx (x ∷ xs) j (inr h) = inr (in_numbered kx xs (suc j) h)

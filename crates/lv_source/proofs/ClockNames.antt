@@ -1,23 +1,21 @@
 -- The clock names that stand in the expressions and targets of scopes are those of their parts, where no port is at fault.
-use Rattle.std.proofs.Common.{◌≡◌, ℕ, suc, ◌+◌, Bool, true, false, ◌&&◌, List, [], ◌∷◌, ◌++◌, map, length, append_assoc, refl, sym, ap, ◌∙◌, Option, Some, None}
+use Rattle.std.proofs.Common.{◌≡◌, ℕ, ◌+◌, Bool, true, false, ◌&&◌, List, [], ◌∷◌, ◌++◌, map, refl, sym, ap, ◌∙◌, Option, Some, None}
 use Rattle.std.specs.Prelude.{max, flat_map, if◌then◌else◌}
-use Rattle.std.specs.List.{list_any}
 use Rattle.std.proofs.lemmas.Grind.{flat_map-append}
 use Rattle.lv_bits.specs.Values.{keeps_width, is_apart}
 use Rattle.lv_ast.specs.declared.expr.Expr.{Expr}
 use Rattle.lv_ast.specs.declared.expr.Expr.TheOpen.{Expr-F, Select-F}
 use Rattle.lv_ast.specs.declared.expr.Path.{Path}
 use Rattle.lv_ast.specs.declared.stmt.Ident.{Ident}
-use Rattle.lv_ast.specs.declared.stmt.Target.{Target}
 use Rattle.lv_ast.specs.declared.stmt.Stmt.{Stmt, Row_of-Stmt, end_of-Stmt, more_of-Stmt, Row_of-Arm, end_of-Arm, more_of-Arm, Held-Stmt-If-2, None', Some'}
 use Rattle.lv_ast.specs.declared.stmt.Stmt.TheVariants as b
 use Rattle.lv_ast.specs.declared.stmt.Stmt.TheOpen.{Stmt-F}
-use Rattle.lv_ast.specs.Trees.{fold_expr, fold_select, fold_stmt, fold_stmts, fold_one_stmt, fold_held, fold_arms}
+use Rattle.lv_ast.specs.Trees.{fold_stmt, fold_stmts, fold_one_stmt, fold_held, fold_arms}
 use Rattle.lv_ast.specs.Names.{Name}
 use Rattle.lv_source.specs.Names.{Names, Here, with_early}
 use Rattle.lv_source.specs.Effect.{ArmOf, arm_step, turns, index_value, with_index}
-use Rattle.lv_source.specs.Sites.{Walk, WalkStep, Site, Spot, Role, Value, Joined, Written, Driven, spots, first_place, own_sites, fixed_sites, index_sites, step_sites, below_sites, joined_role, is_driven, greater_sites, node_shown, walk_step, walk_select_step, walk, walk_select, expr_sites, target_sites}
-use Rattle.lv_source.specs.NodeRules.{clock_use, clock_in}
+use Rattle.lv_source.specs.Sites.{Walk, WalkStep, Site, Spot, Role, Value, Joined, Written, spots, first_place, own_sites, fixed_sites, index_sites, step_sites, below_sites, joined_role, is_driven, greater_sites, node_shown, walk_step, walk_select_step, walk, expr_sites, target_sites}
+use Rattle.lv_source.specs.NodeRules.{clock_use}
 use Rattle.lv_source.specs.Standing.{Form, Empty, Test, Choose, Repeat, Assign, Standing, Standings, one, standing, standing_step, standing_or, at_turn, target_width, header_spots, case_sites, form_spots, stmt_spots}
 use Rattle.lv_source.specs.PartSites.{clocks_in, stmt_sites}
 use Rattle.lv_source.proofs.Each.{Each}

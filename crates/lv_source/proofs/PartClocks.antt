@@ -4,7 +4,6 @@ use Rattle.std.specs.Prelude.{flat_map, drop, if◌then◌else◌}
 use Rattle.std.specs.List.{list_any}
 use Rattle.std.proofs.lemmas.Grind.{flat_map-append}
 use Rattle.lv_ast.specs.declared.expr.Expr.{Expr}
-use Rattle.lv_ast.specs.declared.stmt.Stmt.{Stmt}
 use Rattle.lv_ast.specs.declared.item.Item.{Item}
 use Rattle.lv_ast.specs.declared.item.Item.TheVariants as i
 use Rattle.lv_ast.specs.declared.item.Range.{Range}
@@ -22,15 +21,15 @@ use Rattle.lv_source.specs.Declarations.{Thing, Direction, Wire, Reg, Parameter,
 use Rattle.lv_source.specs.Scopes.{Scope, Link, module_named, instance_scopes, links, is_clock, is_output, here_at, counted_from, settable_in, setting_width}
 use Rattle.lv_source.specs.Sites.{Site, Spot, spots, expr_sites, sink_sites}
 use Rattle.lv_source.specs.PartSites.{port_width, assign_sites, link_sites, stmt_sites, clocks_in}
-use Rattle.lv_source.specs.Parts.{Design, Part, At, Assign, part, net_part, output_part, link_body, link_part, instance_parts, always_body, item_parts, scope_parts, parts, scopes_of, whole_piece, whole_value, as_target, links_to, option_list, numbered_from}
-use Rattle.lv_source.specs.ScopeRules.{is_none, conn_if, conn_places, first_in, no_target, inst_ports, ports_by, ports_in_item, ports, at_items, maybe_sites, range_sites, declaration_sites, parameter_width, inst_sites, setting_sites, item_sites, item_spots, scope_spots, clock_uses, unknown_ports, twice_linked, extra_settings, settable_of, port_directions, two_ranges}
+use Rattle.lv_source.specs.Parts.{Design, Part, At, Assign, part, net_part, output_part, link_body, link_part, instance_parts, item_parts, scope_parts, parts, scopes_of, whole_piece, whole_value, as_target, links_to, option_list, numbered_from}
+use Rattle.lv_source.specs.ScopeRules.{is_none, conn_if, conn_places, first_in, no_target, inst_ports, ports_by, ports_in_item, ports, at_items, maybe_sites, range_sites, declaration_sites, parameter_width, inst_sites, setting_sites, item_spots, clock_uses, unknown_ports, twice_linked, extra_settings, settable_of, port_directions}
 use Rattle.lv_source.specs.Legal.{Port, ClockUse, places_of, in_scopes, top_clock}
-use Rattle.lv_source.specs.Views.{View, at_view, view_of, views_of, named_clocks, clock_views}
+use Rattle.lv_source.specs.Views.{at_view, views_of, named_clocks, clock_views}
 use Rattle.lv_source.proofs.Refused.{In}
 use Rattle.lv_source.proofs.FaultLaws.{append-left, append-right, scopes_clean}
 use Rattle.lv_source.proofs.Bridges.{two, map-join, each, bridge_clocks}
 use Rattle.lv_source.proofs.Facts.{some_same}
-use Rattle.lv_source.proofs.ClockNames.{uses, spots_use, uses_join, nothing, both_nothing, flat_silent, fixed_silent, header_silent, stmt_use, flat-flat}
+use Rattle.lv_source.proofs.ClockNames.{uses, spots_use, uses_join, both_nothing, flat_silent, fixed_silent, header_silent, stmt_use, flat-flat}
 
 nil-right : {A : Type 0} (xs : List A) → xs ≡ xs ++ []
 nil-right [] = refl

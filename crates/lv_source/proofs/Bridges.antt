@@ -100,7 +100,7 @@ aims : (p : Part) → r.target_places p ≡ v.aimed_at (view_of p)
 aims p = ap (λ ats. p.at ∷ ats) (sym (map-map (λ (a : Aim). v.at_view (view_of p) a.place) aim_of (r.targets p)))
 
 -- a rule at each part is a rule at each view
-each : (f : ℕ → Part → List At) (g : ℕ → View → List At) (ps : List Part) (j : ℕ) → ((k : ℕ) (p : Part) → f k p ≡ g k (view_of p)) →
+pub each : (f : ℕ → Part → List At) (g : ℕ → View → List At) (ps : List Part) (j : ℕ) → ((k : ℕ) (p : Part) → f k p ≡ g k (view_of p)) →
     flat_map (λ (kp : ℕ × Part). f kp.0 kp.1) (numbered_from j ps) ≡ flat_map (λ (kv : ℕ × View). g kv.0 kv.1) (numbered_from j (map view_of ps))
 each f g [] j h = refl
 each f g (p ∷ ps) j h = two (λ (a b : List At). a ++ b) _ _ _ _ (h j p) (each f g ps (suc j) h)
@@ -190,13 +190,13 @@ readers ps b = any-over (λ p. has_bit (reads p) b) (λ w. has_bit w.reads b) vi
 other_drivers : (ps : List Part) (k : ℕ) (b : Bit) → driven_by (r.others k ps) b ≡ v.view_driven (r.others k (map view_of ps)) b
 other_drivers ps k b = driven (r.others k ps) b ∙ ap (λ ws. v.view_driven ws b) (sym (others-map view_of k ps))
 
-twice_by : (a : At) (b : Body) → r.is_twice_named (record { at = a; body = b }) ≡ (v.is_continuous (way_of b) && r.has_twice (drives (record { at = a; body = b })))
-twice_by a (Assign ps value) = refl
-twice_by a (Comb names s) = refl
-twice_by a (Clocked names c s) = refl
+twice_by : (a : At) (cs : List ℕ) (b : Body) → r.is_twice_named (record { at = a; clocks = cs; body = b }) ≡ (v.is_continuous (way_of b) && r.has_twice (drives (record { at = a; clocks = cs; body = b })))
+twice_by a cs (Assign ps value) = refl
+twice_by a cs (Comb names s) = refl
+twice_by a cs (Clocked names c s) = refl
 
 twice : (p : Part) → r.is_twice_named p ≡ (v.is_continuous (view_of p).way && r.has_twice (view_of p).drives)
-twice p = twice_by p.at p.body
+twice p = twice_by p.at p.clocks p.body
 
 mixed : (ps : List Part) (p : Part) (x : Declared) → r.is_mixed ps p x ≡ v.is_mixed_view (map view_of ps) (view_of p) x
 mixed ps p x = ap (λ c. (is_variable_sort x.sort && r.touches (drives p) x) && c)
@@ -238,41 +238,41 @@ bridge_undriven d = each (λ k p. r.undriven d (parts d) p) (λ k w. r.told_if (
 
 -- ---- Latch and ReadFirst
 
-latch_by : (a : At) (b : Body) → r.has_latch (record { at = a; body = b }) ≡ (v.is_combinational (way_of b) && leaves_latch (v.paths_of b))
-latch_by a (Assign ps value) = refl
-latch_by a (Comb names s) = latch_is names s
-latch_by a (Clocked names c s) = refl
+latch_by : (a : At) (cs : List ℕ) (b : Body) → r.has_latch (record { at = a; clocks = cs; body = b }) ≡ (v.is_combinational (way_of b) && leaves_latch (v.paths_of b))
+latch_by a cs (Assign ps value) = refl
+latch_by a cs (Comb names s) = latch_is names s
+latch_by a cs (Clocked names c s) = refl
 
-first_by : (a : At) (b : Body) → r.reads_itself_first (record { at = a; body = b }) ≡ (v.is_combinational (way_of b) && exposes_own (v.paths_of b))
-first_by a (Assign ps value) = refl
-first_by a (Comb names s) = read_first_is names s
-first_by a (Clocked names c s) = refl
+first_by : (a : At) (cs : List ℕ) (b : Body) → r.reads_itself_first (record { at = a; clocks = cs; body = b }) ≡ (v.is_combinational (way_of b) && exposes_own (v.paths_of b))
+first_by a cs (Assign ps value) = refl
+first_by a cs (Comb names s) = read_first_is names s
+first_by a cs (Clocked names c s) = refl
 
 pub bridge_latch : (d : Design) → places_of d Latch ≡ v.latch_views (views_of d)
 unfolding places_of
 bridge_latch d = each (λ k p. r.latches p) (λ k w. r.told_if (v.is_combinational w.way && leaves_latch w.paths) (w.at ∷ [])) (parts d) 0
-    (λ k p. told _ _ _ _ (latch_by p.at p.body) refl)
+    (λ k p. told _ _ _ _ (latch_by p.at p.clocks p.body) refl)
 
 pub bridge_first : (d : Design) → places_of d ReadFirst ≡ v.first_views (views_of d)
 unfolding places_of
 bridge_first d = each (λ k p. r.read_first p) (λ k w. r.told_if (v.is_combinational w.way && exposes_own w.paths) (w.at ∷ [])) (parts d) 0
-    (λ k p. told _ _ _ _ (first_by p.at p.body) refl)
+    (λ k p. told _ _ _ _ (first_by p.at p.clocks p.body) refl)
 
 -- ---- targets that aren't constant, and clocks that are targets or that no `posedge` may name
 
-unfixed_by : (a : At) (b : Body) → r.is_unfixed (record { at = a; body = b }) ≡ (v.is_continuous (way_of b) && not (list_all (λ (x : Aim). x.sure) (map aim_of (r.targets (record { at = a; body = b })))))
-unfixed_by a (Assign ps value) = ap not (all-map (λ (x : Aim). x.sure) aim_of ps)
-unfixed_by a (Comb names s) = refl
-unfixed_by a (Clocked names c s) = refl
+unfixed_by : (a : At) (cs : List ℕ) (b : Body) → r.is_unfixed (record { at = a; clocks = cs; body = b }) ≡ (v.is_continuous (way_of b) && not (list_all (λ (x : Aim). x.sure) (map aim_of (r.targets (record { at = a; clocks = cs; body = b })))))
+unfixed_by a cs (Assign ps value) = ap not (all-map (λ (x : Aim). x.sure) aim_of ps)
+unfixed_by a cs (Comb names s) = refl
+unfixed_by a cs (Clocked names c s) = refl
 
 pub bridge_unfixed : (d : Design) → at_parts d (λ ps k p. r.unfixed_targets p) ≡ v.unfixed_views (views_of d)
 bridge_unfixed d = each (λ k p. r.unfixed_targets p) (λ k w. r.told_if (v.is_continuous w.way && not (list_all (λ (x : Aim). x.sure) w.targets)) (v.aimed_at w)) (parts d) 0
-    (λ k p. told _ _ _ _ (unfixed_by p.at p.body) (aims p))
+    (λ k p. told _ _ _ _ (unfixed_by p.at p.clocks p.body) (aims p))
 
-edge_by : (a : At) (b : Body) → r.other_clocks (record { at = a; body = b }) ≡ v.edge_places (view_of (record { at = a; body = b }))
-edge_by a (Assign ps value) = refl
-edge_by a (Comb names s) = refl
-edge_by a (Clocked names c s) = refl
+edge_by : (a : At) (cs : List ℕ) (b : Body) → r.other_clocks (record { at = a; clocks = cs; body = b }) ≡ v.edge_places (view_of (record { at = a; clocks = cs; body = b }))
+edge_by a cs (Assign ps value) = refl
+edge_by a cs (Comb names s) = refl
+edge_by a cs (Clocked names c s) = refl
 
 clock_aims_same : (p : Part) → r.clock_targets p ≡ v.clock_aims (view_of p)
 clock_aims_same p =
@@ -281,7 +281,7 @@ clock_aims_same p =
 
 pub bridge_clocks : (d : Design) → at_parts d (λ ps k p. r.other_clocks p ++ r.clock_targets p) ≡ v.clock_views (views_of d)
 bridge_clocks d = each (λ k p. r.other_clocks p ++ r.clock_targets p) (λ k w. v.edge_places w ++ v.clock_aims w) (parts d) 0
-    (λ k p. two (λ (a b : List At). a ++ b) _ _ _ _ (edge_by p.at p.body) (clock_aims_same p))
+    (λ k p. two (λ (a b : List At). a ++ b) _ _ _ _ (edge_by p.at p.clocks p.body) (clock_aims_same p))
 
 -- ---- Cycle
 

@@ -21,6 +21,8 @@ use Rattle.lv_source.specs.Meaning.{Reading, read_expr}
 use Rattle.lv_source.specs.Effect.{Piece, pieces}
 use Rattle.lv_source.specs.Declarations.{of_item}
 use Rattle.lv_source.specs.Scopes.{Scope, Link, module_named, instance_scopes, children, children_by, counted_from}
+use Rattle.lv_source.specs.Sites.{Site, expr_sites, sink_sites}
+use Rattle.lv_source.specs.PartSites.{port_width, assign_sites}
 use Rattle.lv_source.specs.Parts.{Design, Part, Body, Assign, part, net_part, output_part, link_body, link_part, instance_parts, whole_piece, always_body, item_parts, scope_parts, parts, scopes_of, signals_of, whole_value, as_target, links_to, option_list, drives, is_clocked, width_from, width_at}
 use Rattle.lv_source.specs.Legal.{IsLegal}
 use Rattle.lv_ast.specs.PlainNames.{HasPlainNames}
@@ -50,10 +52,10 @@ module _ (ss : List Declared) where
   net_is : (s : Scope) (n : NetName) → net_part s n ≡ elim n.value [ None ↦ [] | Some x ↦ net_part s (record n { value = Some x }) ]
   net_is s n = elim n.value as (λ o. net_part s (record n { value = o }) ≡ elim o [ None ↦ [] | Some x ↦ net_part s (record n { value = Some x }) ]) [ None ↦ refl | Some x ↦ refl ]
 
-  output_known : (s : Scope) (place : ℕ) (value : Reading) (o : Option (List Piece)) → MaybeKnown ss o → (p : Part) → In p (output_part s place value o) → KnownPart p
-  output_known s place value None f p h = absurd h
-  output_known s place value (Some ps) f p (inl e) = subst KnownPart e f
-  output_known s place value (Some ps) f p (inr e) = absurd e
+  output_known : (s : Scope) (place : ℕ) (sites : List Site) (value : Reading) (o : Option (List Piece)) → MaybeKnown ss o → (p : Part) → In p (output_part s place sites value o) → KnownPart p
+  output_known s place sites value None f p h = absurd h
+  output_known s place sites value (Some ps) f p (inl e) = subst KnownPart e f
+  output_known s place sites value (Some ps) f p (inr e) = absurd e
 
   alone_known : (q p : Part) → KnownPart q → In p (q ∷ []) → KnownPart p
   alone_known q p f (inl e) = subst KnownPart e f
@@ -67,9 +69,9 @@ module _ (ss : List Declared) where
   link_by : (s child : Scope) (l : Link) → Knows ss s.names → Knows ss child.names → (o : Option Expr) (p : Part) → In p (elim o [ None ↦ [] | Some x ↦ link_body s child l x ]) → KnownPart p
   link_by s child l f g None p h = absurd h
   link_by s child l f g (Some x) p h =
-      let into : Part = part s l.conn.place (Assign (whole_piece child.names l.conn.place l.port ∷ []) (read_expr s.names x)) in
-      pick p _ _ (output_part s l.conn.place (whole_value child.names l.port) (as_target s.names x)) (into ∷ []) h
-      (λ k. output_known s l.conn.place (whole_value child.names l.port) (as_target s.names x) (target_known ss s.names f x) p k)
+      let into : Part = part s l.conn.place (expr_sites false s.names (port_width child l.port) x) (Assign (whole_piece child.names l.conn.place l.port ∷ []) (read_expr s.names x)) in
+      pick p _ _ (output_part s l.conn.place (sink_sites s.names x) (whole_value child.names l.port) (as_target s.names x)) (into ∷ []) h
+      (λ k. output_known s l.conn.place (sink_sites s.names x) (whole_value child.names l.port) (as_target s.names x) (target_known ss s.names f x) p k)
       (alone_known into p (g _, tt))
 
   always_known : (names : Names) (stmt : Stmt) (watch : Watch) → Knows ss names → KnownBody ss (always_body names stmt watch)
@@ -92,8 +94,8 @@ module _ (ss : List Declared) where
         (let r : (n : NetName) × In n names × In p (net_part s n) = in-from (net_part s) p names h in
         net_known s r.0 f r.0.value p (subst (λ (xs : List Part). In p xs) (net_is s r.0) r.2))
     item_known k (i.Assign list) g p h =
-        (let r : (a : Continuous) × In a list × (part s a.place (Assign (pieces s.names a.target) (read_expr s.names a.value)) ≡ p) =
-        mapped-from (λ (a : Continuous). part s a.place (Assign (pieces s.names a.target) (read_expr s.names a.value))) p list h in
+        (let r : (a : Continuous) × In a list × (part s a.place (assign_sites s.names a) (Assign (pieces s.names a.target) (read_expr s.names a.value)) ≡ p) =
+        mapped-from (λ (a : Continuous). part s a.place (assign_sites s.names a) (Assign (pieces s.names a.target) (read_expr s.names a.value))) p list h in
         subst KnownPart r.2 (pieces_known ss s.names f r.0.target))
     item_known k (i.Always watch stmt place) g p (inl e) = subst KnownPart e (always_known s.names stmt watch f)
     item_known k (i.Always watch stmt place) g p (inr e) = absurd e

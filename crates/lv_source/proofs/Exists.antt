@@ -32,11 +32,11 @@ use Rattle.lv_source.proofs.Unique.{clash, body_settles, bit_with, outside, fed}
 
 -- ---- what a part leaves alone
 
-body_kept : (a : At) (x : Body) → (let p : Part = record { at = a; body = x } in
+body_kept : (a : At) (cs : List ℕ) (x : Body) → (let p : Part = record { at = a; clocks = cs; body = x } in
     FaithfulBody x → is_clocked p ≡ false → list_any (λ e. is_comb p && not e.at_once) (r.events p) ≡ false → (v : Valuation) (b : Bit) → has_bit (drives p) b ≡ false → bit_at (after p v) b ≡ bit_at v b)
-body_kept a (Assign ps value) f c o v b h = put_kept ps value v f.0 b h
-body_kept a (Comb names s) f c o v b h = block_kept names s o v b h
-body_kept a (Clocked names k s) f c o v b h = cc
+body_kept a cs (Assign ps value) f c o v b h = put_kept ps value v f.0 b h
+body_kept a cs (Comb names s) f c o v b h = block_kept names s o v b h
+body_kept a cs (Clocked names k s) f c o v b h = cc
 
 -- ---- the driver of a bit
 
@@ -59,10 +59,10 @@ left_bit : Valuation → Bit → Option Part → ℕ
 left_bit v b None = bit_at v b
 left_bit v b (Some p) = bit_at (after p v) b
 
-unclocked_assign : (a : At) (x : Body) → (let p : Part = record { at = a; body = x } in is_clocked p ≡ false → is_comb p ≡ false → r.is_block p ≡ false)
-unclocked_assign a (Assign ps value) h k = refl
-unclocked_assign a (Comb names s) h k = cc
-unclocked_assign a (Clocked names c s) h k = cc
+unclocked_assign : (a : At) (cs : List ℕ) (x : Body) → (let p : Part = record { at = a; clocks = cs; body = x } in is_clocked p ≡ false → is_comb p ≡ false → r.is_block p ≡ false)
+unclocked_assign a cs (Assign ps value) h k = refl
+unclocked_assign a cs (Comb names s) h k = cc
+unclocked_assign a cs (Clocked names c s) h k = cc
 
 variable_no_input : (s : Sort) → is_variable_sort s ≡ true → is_input_sort s ≡ false
 variable_no_input Input h = cc
@@ -271,7 +271,7 @@ module _ (d : Design) (legal : IsLegal d) (apart : HasApartSignals d) (s : Valua
         ]
       ] in
       let middle : bit_at (after p (rounds (suc n))) b ≡ bit_at (after p (rounds n)) b =
-      body_settles p.at p.body (each_at FaithfulPart ps (parts_faithful d) k p e) c (no_latch d legal k p e) (no_read_first d legal k p e) (no_nonblocking d legal k p e)
+      body_settles p.at p.clocks p.body (each_at FaithfulPart ps (parts_faithful d) k p e) c (no_latch d legal k p e) (no_read_first d legal k p e) (no_nonblocking d legal k p e)
       (no_unfixed d legal k p e) (rounds (suc n)) (rounds n) same b h in
       (step_bit (rounds (suc n)) b inside ∙ next_some (rounds (suc n)) k p b e c h) ∙ (middle ∙ sym (step_bit (rounds n) b inside ∙ next_some (rounds n) k p b e c h))
 
@@ -288,7 +288,7 @@ module _ (d : Design) (legal : IsLegal d) (apart : HasApartSignals d) (s : Valua
             let rest : bit_at (step v) b ≡ bit_at v b =
             rests (length ps) (k ∷ []) k p e c refl refl (at_below ps k p e, tt) (omega arith) b driven in
             sym (next_some v k p b e c driven) ∙ (sym (step_bit v b inside) ∙ rest))
-        | inr free ↦ body_kept p.at p.body (each_at FaithfulPart ps (parts_faithful d) k p e) c (no_nonblocking d legal k p e) v b free
+        | inr free ↦ body_kept p.at p.clocks p.body (each_at FaithfulPart ps (parts_faithful d) k p e) c (no_nonblocking d legal k p e) v b free
       ]))
 
   -- ---- what stays of the start
@@ -305,7 +305,7 @@ module _ (d : Design) (legal : IsLegal d) (apart : HasApartSignals d) (s : Valua
             let among : driven_by (filter is_comb ps) b ≡ true = any_filtered is_comb (λ p. has_bit (drives p) b) ps k q ek comb dq in
             clash (driven_by (filter is_comb ps) b) among (none_has (driven_by (filter is_comb ps)) (whole x) b no_comb inside))
         | inr other ↦ (
-            let no_block : r.is_block q ≡ false = unclocked_assign q.at q.body cq other in
+            let no_block : r.is_block q ≡ false = unclocked_assign q.at q.clocks q.body cq other in
             let unlike : not (same_sign (r.is_block q) (is_variable_sort x.sort)) ≡ true =
             ap (λ z. not (same_sign z (is_variable_sort x.sort))) no_block ∙ ap (λ z. not (same_sign false z)) variable in
             let no_input : is_input_sort x.sort ≡ false = variable_no_input x.sort variable in

@@ -7,6 +7,7 @@ pub mod Carried
 pub mod CaseTrees
 pub mod Cases
 pub mod Chains
+pub mod ClockNames
 pub mod DesignA
 pub mod DesignM
 pub mod Determined
@@ -31,6 +32,7 @@ pub mod Listed
 pub mod Mends
 pub mod Nesting
 pub mod Numbers
+pub mod PartClocks
 pub mod Paths
 pub mod Pieces
 pub mod Pipeline

@@ -18,6 +18,8 @@ use Rattle.lv_source.specs.Names.{Names}
 use Rattle.lv_source.specs.Meaning.{Reading, read_expr}
 use Rattle.lv_source.specs.Effect.{Piece, pieces}
 use Rattle.lv_source.specs.Scopes.{Scope, Link, module_named, instance_scopes}
+use Rattle.lv_source.specs.Sites.{Site, expr_sites, sink_sites}
+use Rattle.lv_source.specs.PartSites.{port_width, assign_sites}
 use Rattle.lv_source.specs.Parts.{Design, Part, Body, Assign, Comb, Clocked, part, net_part, output_part, link_body, link_part, instance_parts, always_body, item_parts, scope_parts, parts, scopes_of, whole_piece, whole_value, as_target, links_to, option_list}
 use Rattle.lv_source.proofs.Each.{Each, each-join}
 use Rattle.lv_source.proofs.Faithful.{Faithful}
@@ -44,13 +46,13 @@ whole_faithful : (names : Names) (name : Name) → Faithful (whole_value names n
 whole_faithful names name = node names (Expr-F.Name (alone name) []) tt
 
 net_faithful : (s : Scope) (n : NetName) → (x : Option Expr) →
-    Each FaithfulPart (elim x [ None ↦ [] | Some x ↦ part s n.name.place (Assign (whole_piece s.names n.name.place n.name.name ∷ []) (read_expr s.names x)) ∷ [] ])
+    Each FaithfulPart (elim x [ None ↦ [] | Some x ↦ part s n.name.place (expr_sites false s.names (port_width s n.name.name) x) (Assign (whole_piece s.names n.name.place n.name.name ∷ []) (read_expr s.names x)) ∷ [] ])
 net_faithful s n None = tt
 net_faithful s n (Some x) = (((tt, tt), faithful s.names x), tt)
 
-output_faithful : (s : Scope) (place : _) (value : Reading) → Faithful value → (o : Option (List Piece)) → MaybeFaithful o → Each FaithfulPart (output_part s place value o)
-output_faithful s place value f None h = tt
-output_faithful s place value f (Some ps) h = ((h, f), tt)
+output_faithful : (s : Scope) (place : _) (sites : List Site) (value : Reading) → Faithful value → (o : Option (List Piece)) → MaybeFaithful o → Each FaithfulPart (output_part s place sites value o)
+output_faithful s place sites value f None h = tt
+output_faithful s place sites value f (Some ps) h = ((h, f), tt)
 
 both_ways : (P : Part → Type 0) (a b : Bool) (xs ys : List Part) → Each P xs → Each P ys → Each P (if a then [] else if b then xs else ys)
 both_ways P true b xs ys h k = tt
@@ -60,9 +62,9 @@ both_ways P false false xs ys h k = k
 link_by : (s child : Scope) (l : Link) (x : Option Expr) → Each FaithfulPart (elim x [ None ↦ [] | Some x ↦ link_body s child l x ])
 link_by s child l None = tt
 link_by s child l (Some x) =
-    both_ways FaithfulPart _ _ (output_part s l.conn.place (whole_value child.names l.port) (as_target s.names x))
-    (part s l.conn.place (Assign (whole_piece child.names l.conn.place l.port ∷ []) (read_expr s.names x)) ∷ [])
-    (output_faithful s l.conn.place (whole_value child.names l.port) (whole_faithful child.names l.port) (as_target s.names x) (target_faithful s.names x))
+    both_ways FaithfulPart _ _ (output_part s l.conn.place (sink_sites s.names x) (whole_value child.names l.port) (as_target s.names x))
+    (part s l.conn.place (expr_sites false s.names (port_width child l.port) x) (Assign (whole_piece child.names l.conn.place l.port ∷ []) (read_expr s.names x)) ∷ [])
+    (output_faithful s l.conn.place (sink_sites s.names x) (whole_value child.names l.port) (whole_faithful child.names l.port) (as_target s.names x) (target_faithful s.names x))
     (((tt, tt), faithful s.names x), tt)
 
 link_faithful : (s child : Scope) (l : Link) → Each FaithfulPart (link_part s child l)
@@ -79,12 +81,12 @@ always_faithful names stmt w.Star = tt
 always_faithful names stmt w.Closed = tt
 always_faithful names stmt (w.Posedge clock) = tt
 
-assign_faithful : (s : Scope) (a : Continuous) → FaithfulPart (part s a.place (Assign (pieces s.names a.target) (read_expr s.names a.value)))
+assign_faithful : (s : Scope) (a : Continuous) → FaithfulPart (part s a.place (assign_sites s.names a) (Assign (pieces s.names a.target) (read_expr s.names a.value)))
 assign_faithful s a = (pieces_faithful s.names a.target, faithful s.names a.value)
 
 item_faithful : (source : Source) (s : Scope) (x : Item) → Each FaithfulPart (item_parts source s x)
 item_faithful source s (i.Wire signed range names) = each-flat FaithfulPart (net_part s) (λ n. net_faithful s n n.value) names
-item_faithful source s (i.Assign list) = each-mapped FaithfulPart (λ (a : Continuous). part s a.place (Assign (pieces s.names a.target) (read_expr s.names a.value))) (assign_faithful s) list
+item_faithful source s (i.Assign list) = each-mapped FaithfulPart (λ (a : Continuous). part s a.place (assign_sites s.names a) (Assign (pieces s.names a.target) (read_expr s.names a.value))) (assign_faithful s) list
 item_faithful source s (i.Always watch stmt place) = (always_faithful s.names stmt watch, tt)
 item_faithful source s (i.Instance kind settings insts) = each-flat FaithfulPart (instance_parts source s kind.name settings) (instance_faithful source s kind.name settings) insts
 item_faithful source s _ = tt

@@ -42,24 +42,24 @@ all_kept (p ∷ ps) h =
     ap (λ c. cond c (p ∷ filter (λ q. all_constant q.choices) ps) (filter (λ q. all_constant q.choices) ps)) (and-left (all_constant p.choices) (list_all (λ q. all_constant q.choices) ps) h) ∙
     ap (λ (qs : List Piece). p ∷ qs) (all_kept ps (and-right (all_constant p.choices) (list_all (λ q. all_constant q.choices) ps) h))
 
-pub body_settles : (a : At) (x : Body) → (let p : Part = record { at = a; body = x } in
+pub body_settles : (a : At) (cs : List ℕ) (x : Body) → (let p : Part = record { at = a; clocks = cs; body = x } in
     FaithfulBody x → is_clocked p ≡ false → r.has_latch p ≡ false → r.reads_itself_first p ≡ false → list_any (λ e. is_comb p && not e.at_once) (r.events p) ≡ false → r.is_unfixed p ≡ false →
     (v w : Valuation) → Same (outside p) v w → (b : Bit) → has_bit (drives p) b ≡ true → bit_at (after p v) b ≡ bit_at (after p w) b)
-body_settles a (Assign ps value) f c l t o u v w same b h =
+body_settles a cs (Assign ps value) f c l t o u v w same b h =
     put_settles ps value v w f.1 f.0 (λ x k. same x (and-both (has_bit (value.reads ++ target_reads ps) x) true k refl)) b
     (inr (ap (λ (qs : List Piece). has_bit (writes_of qs) b) (all_kept ps (not-false (list_all (λ q. all_constant q.choices) ps) u)) ∙ h))
-body_settles a (Comb names s) f c l t o u v w same b h = block_settles names s l t o v w same b h
-body_settles a (Clocked names k s) f c l t o u v w same b h = cc
+body_settles a cs (Comb names s) f c l t o u v w same b h = block_settles names s l t o v w same b h
+body_settles a cs (Clocked names k s) f c l t o u v w same b h = cc
 
-pub comb_unclocked : (a : At) (x : Body) → (let p : Part = record { at = a; body = x } in is_comb p ≡ true → is_clocked p ≡ false)
-comb_unclocked a (Assign ps value) h = cc
-comb_unclocked a (Comb names s) h = refl
-comb_unclocked a (Clocked names c s) h = cc
+pub comb_unclocked : (a : At) (cs : List ℕ) (x : Body) → (let p : Part = record { at = a; clocks = cs; body = x } in is_comb p ≡ true → is_clocked p ≡ false)
+comb_unclocked a cs (Assign ps value) h = cc
+comb_unclocked a cs (Comb names s) h = refl
+comb_unclocked a cs (Clocked names c s) h = cc
 
-clocked_block : (a : At) (x : Body) → (let p : Part = record { at = a; body = x } in is_clocked p ≡ true → r.is_block p ≡ true)
-clocked_block a (Assign ps value) h = cc
-clocked_block a (Comb names s) h = cc
-clocked_block a (Clocked names c s) h = refl
+clocked_block : (a : At) (cs : List ℕ) (x : Body) → (let p : Part = record { at = a; clocks = cs; body = x } in is_clocked p ≡ true → r.is_block p ≡ true)
+clocked_block a cs (Assign ps value) h = cc
+clocked_block a cs (Comb names s) h = cc
+clocked_block a cs (Clocked names c s) h = refl
 
 -- a part of the filtered list is one of the list
 pub filtered_any : (q t : Part → Bool) (ps : List Part) → list_any t (filter q ps) ≡ true → list_any (λ p. q p && t p) ps ≡ true
@@ -113,7 +113,7 @@ module _ (d : Design) (legal : IsLegal d) (v w : Valuation) (sv : IsSettled d v)
       let left : (name : Name) → after p v name ≡ v name = all_at (λ p. (name : Name) → after p v name ≡ v name) (λ p. not (is_clocked p)) ps sv.holds k p e (ap not c) in
       let right : (name : Name) → after p w name ≡ w name = all_at (λ p. (name : Name) → after p w name ≡ w name) (λ p. not (is_clocked p)) ps sw.holds k p e (ap not c) in
       let middle : bit_at (after p v) b ≡ bit_at (after p w) b =
-      body_settles p.at p.body (each_at FaithfulPart ps (parts_faithful d) k p e) c (no_latch d legal k p e) (no_read_first d legal k p e) (no_nonblocking d legal k p e)
+      body_settles p.at p.clocks p.body (each_at FaithfulPart ps (parts_faithful d) k p e) c (no_latch d legal k p e) (no_read_first d legal k p e) (no_nonblocking d legal k p e)
       (no_unfixed d legal k p e) v w same b h in
       ap (λ n. n / 2 ^ b.place % 2) (sym (left b.name)) ∙ (middle ∙ ap (λ n. n / 2 ^ b.place % 2) (right b.name))
 
@@ -152,13 +152,13 @@ module _ (d : Design) (legal : IsLegal d) (v w : Valuation) (sv : IsSettled d v)
             let comb : is_comb q.1 ≡ true = and-left (is_comb q.1) (has_bit (drives q.1) c.0) q.3 in
             let touches : r.touches (drives q.1) x ≡ true = bit_with (has_bit (whole x)) (drives q.1) c.0 (and-right (is_comb q.1) (has_bit (drives q.1) c.0) q.3) c.1 in
             let unlike : not (same_sign (is_clocked p) (is_clocked q.1)) ≡ true =
-            ap (λ z. not (same_sign z (is_clocked q.1))) clocked ∙ ap (λ z. not (same_sign true z)) (comb_unclocked q.1.at q.1.body comb) in
+            ap (λ z. not (same_sign z (is_clocked q.1))) clocked ∙ ap (λ z. not (same_sign true z)) (comb_unclocked q.1.at q.1.clocks q.1.body comb) in
             let other : list_any (λ q. r.touches (drives q) x && not (same_sign (is_clocked p) (is_clocked q))) ps ≡ true =
             at_any (λ q. r.touches (drives q) x && not (same_sign (is_clocked p) (is_clocked q))) ps q.0 q.1 q.2 (and-both _ _ touches unlike) in
             let mixed : r.is_mixed ps p x ≡ true = and-both _ _ (and-both (is_variable_sort x.sort) (r.touches (drives p) x) variable touched) other in
             clash (list_any (r.is_mixed ps p) (signals_of d)) (at_any (r.is_mixed ps p) (signals_of d) i x ex mixed) (no_mixed d legal k p ep))
         | inr net ↦ (
-            let block : r.is_block p ≡ true = clocked_block p.at p.body clocked in
+            let block : r.is_block p ≡ true = clocked_block p.at p.clocks p.body clocked in
             let unlike : not (same_sign (r.is_block p) (is_variable_sort x.sort)) ≡ true =
             ap (λ z. not (same_sign z (is_variable_sort x.sort))) block ∙ ap (λ z. not (same_sign true z)) net in
             let wrong : list_any (λ x. r.touches (drives p) x && not (same_sign (r.is_block p) (is_variable_sort x.sort)) && not (is_input_sort x.sort)) (signals_of d) ≡ true =

@@ -1,5 +1,5 @@
 -- The scopes of a design are those that a walk comes to, and what it has counted so far is no more than all.
-use Rattle.std.proofs.Common.{◌≡◌, ◌↔◌, inl, inr, ℕ, zero, suc, ◌+◌, ◌<◌, ◌≤◌, arith, List, [], ◌∷◌, ◌++◌, map, length, append_assoc, refl, sym, ap, ◌∙◌, subst, Option, Some, None}
+use Rattle.std.proofs.Common.{◌≡◌, ◌↔◌, inl, inr, ℕ, zero, suc, ◌+◌, ◌<◌, ◌≤◌, arith, List, [], ◌∷◌, ◌++◌, map, length, append_assoc, refl, sym, ap, ◌∙◌, subst, Some}
 use Rattle.std.specs.Prelude.{bytes_eq, flat_map, sum}
 use Rattle.std.proofs.lemmas.List.{length-append}
 use Rattle.std.proofs.lemmas.Grind.{flat_map-append}
@@ -9,7 +9,7 @@ use Rattle.lv_ast.specs.declared.item.Module.{Module}
 use Rattle.lv_ast.specs.declared.item.Source.{Source}
 use Rattle.lv_source.specs.Scopes.{Scope, module_named, children, scopes_within}
 use Rattle.lv_source.specs.Parts.{Design, depth, top_scope, scopes_from, scopes_of, parts, scope_parts, item_parts}
-use Rattle.lv_source.specs.Limits.{Size, sum_sizes, nodes_alone, scope_size, item_size, items_size, design_size, params_nodes, ports_nodes}
+use Rattle.lv_source.specs.Limits.{Size, nodes_alone, scope_size, item_size, items_size, params_nodes, ports_nodes}
 use Rattle.lv_source.specs.Preorder.{AreScopes, none, next, scopes_size, AreSome, AreSomeItems}
 use Rattle.lv_source.proofs.Refused.{In}
 use Rattle.lv_source.proofs.Bridges.{map-join}

@@ -10,6 +10,7 @@ pub mod Names
 pub mod NodeRules
 pub mod Observe
 pub mod PartRules
+pub mod PartSites
 pub mod Parts
 pub mod Places
 pub mod Preorder

@@ -22,6 +22,8 @@ use Rattle.lv_source.specs.Meaning.{Reading, Choice, is_nil, read_expr, read_ste
 use Rattle.lv_source.specs.Effect.{Piece, pieces, places, bits_in, write_all, assigned, left_by}
 use Rattle.lv_source.specs.Flow.{flow, writes_of, block_writes, block_reads}
 use Rattle.lv_source.specs.Declarations.{Declaration, port_names, declared_as}
+use Rattle.lv_source.specs.Sites.{Site, expr_sites, sink_sites}
+use Rattle.lv_source.specs.PartSites.{port_width, assign_sites, stmt_sites, clocks_in}
 use Rattle.lv_source.specs.Scopes.{Scope, module_scope, module_named, instance_scopes, scopes_within, links, Link, is_clock, is_output, is_direction}
 
 -- a source with its top module and the name of its clock
@@ -110,6 +112,8 @@ pub record At : Type 0 where
 
 pub record Part : Type 0 where
   pub at : At
+  -- the places of clock names in its expressions and targets
+  pub clocks : List ℕ
   pub body : Body
 
 -- an expression with the names that it is as a target, where it is one
@@ -156,22 +160,25 @@ whole_piece names place name = record { path = record (alone name) { place = pla
 abbrev pub whole_value : Names → Name → Reading
 whole_value names name = read_step names (Expr-F.Name (alone name) [])
 
-abbrev pub part : Scope → ℕ → Body → Part
-part s place body = record { at = record { path = s.path; place = place }; body = body }
+abbrev pub part : Scope → ℕ → List Site → Body → Part
+part s place sites body = record { at = record { path = s.path; place = place }; clocks = clocks_in sites; body = body }
 
 abbrev pub net_part : Scope → NetName → List Part
-net_part s n = elim n.value [ None ↦ [] | Some x ↦ part s n.name.place (Assign (whole_piece s.names n.name.place n.name.name ∷ []) (read_expr s.names x)) ∷ [] ]
+net_part s n = elim n.value [
+  | None ↦ []
+  | Some x ↦ part s n.name.place (expr_sites false s.names (port_width s n.name.name) x) (Assign (whole_piece s.names n.name.place n.name.name ∷ []) (read_expr s.names x)) ∷ []
+]
 
-abbrev pub output_part : Scope → ℕ → Reading → Option (List Piece) → List Part
-output_part s place value None = []
-output_part s place value (Some ps) = part s place (Assign ps value) ∷ []
+abbrev pub output_part : Scope → ℕ → List Site → Reading → Option (List Piece) → List Part
+output_part s place sites value None = []
+output_part s place sites value (Some ps) = part s place sites (Assign ps value) ∷ []
 
 -- a connection is an assignment from its source to its sink
 abbrev pub link_body : Scope → Scope → Link → Expr → List Part
 link_body s child l x =
     if is_clock s.names x && is_clock_sort (known (child.names (alone l.port))).sort then []
-    else if list_any is_output (declared_as l.port child.declarations) then output_part s l.conn.place (whole_value child.names l.port) (as_target s.names x)
-    else part s l.conn.place (Assign (whole_piece child.names l.conn.place l.port ∷ []) (read_expr s.names x)) ∷ []
+    else if list_any is_output (declared_as l.port child.declarations) then output_part s l.conn.place (sink_sites s.names x) (whole_value child.names l.port) (as_target s.names x)
+    else part s l.conn.place (expr_sites false s.names (port_width child l.port) x) (Assign (whole_piece child.names l.conn.place l.port ∷ []) (read_expr s.names x)) ∷ []
 
 abbrev pub link_part : Scope → Scope → Link → List Part
 link_part s child l = elim l.conn.value [ None ↦ [] | Some x ↦ link_body s child l x ]
@@ -196,8 +203,8 @@ always_body names stmt (w.Posedge clock) = Clocked names clock stmt
 
 abbrev pub item_parts : Source → Scope → Item → List Part
 item_parts source s (i.Wire signed range names) = flat_map (net_part s) names
-item_parts source s (i.Assign list) = map (λ a. part s a.place (Assign (pieces s.names a.target) (read_expr s.names a.value))) list
-item_parts source s (i.Always watch stmt place) = part s place (always_body s.names stmt watch) ∷ []
+item_parts source s (i.Assign list) = map (λ a. part s a.place (assign_sites s.names a) (Assign (pieces s.names a.target) (read_expr s.names a.value))) list
+item_parts source s (i.Always watch stmt place) = part s place (stmt_sites s.names stmt) (always_body s.names stmt watch) ∷ []
 item_parts source s (i.Instance kind settings insts) = flat_map (instance_parts source s kind.name settings) insts
 item_parts source s _ = []
 

@@ -1,5 +1,5 @@
 -- The scopes of a design one by one, and what is counted on the way.
-use Rattle.std.specs.Prelude.{ℕ, ◌+◌, ◌≤◌, List, [], ◌∷◌, ◌++◌, map, length, flat_map}
+use Rattle.std.specs.Prelude.{◌+◌, ◌≤◌, List, [], ◌∷◌, ◌++◌, map, length, flat_map}
 use Rattle.lv_ast.specs.declared.item.Item.{Item}
 use Rattle.lv_ast.specs.declared.item.Source.{Source}
 use Rattle.lv_source.specs.Scopes.{Scope, children}

@@ -16,12 +16,13 @@ use Rattle.lv_ast.specs.declared.item.PortWord.TheVariants as w
 use Rattle.lv_ast.specs.declared.item.Source.{Source}
 use Rattle.lv_ast.specs.declared.item.Watch.TheVariants as v
 use Rattle.lv_ast.specs.Names.{Name, alone}
-use Rattle.lv_source.specs.Names.{Names, Here, Sort, Input, Net, Variable, Clock, Constant, Other, Declared, Bounds, known, size, width_of, is_signal_sort, is_clock_sort}
+use Rattle.lv_source.specs.Names.{Names, Here, Sort, Input, Net, Variable, Clock, Constant, Other, Declared, Bounds, known, size, is_signal_sort, is_clock_sort}
 use Rattle.lv_source.specs.Names.{Index as IndexSort}
 use Rattle.lv_source.specs.Declarations.{Thing, Direction, Wire, Reg, Parameter, Index, Instance, Label, Declaration, port_names, declared_as}
-use Rattle.lv_source.specs.Scopes.{Scope, module_named, instance_scopes, is_among, is_direction, is_output, links, Link, settable_in, setting_width, is_clock, bound_number, range_bounds, here_at, counted_items}
+use Rattle.lv_source.specs.Scopes.{Scope, module_named, instance_scopes, is_among, is_direction, is_output, links, Link, settable_in, setting_width, bound_number, range_bounds, here_at, counted_items}
+use Rattle.lv_source.specs.PartSites.{port_width, link_sites}
 use Rattle.lv_source.specs.Parts.{numbered_from, as_target}
-use Rattle.lv_source.specs.Sites.{Driven, Site, Spot, spots, first_place, first_of, walk, expr_sites, sink_sites, target_sites}
+use Rattle.lv_source.specs.Sites.{Driven, Site, Spot, spots, first_place, first_of, walk, expr_sites, target_sites}
 use Rattle.lv_source.specs.Standing.{Empty, Test, Choose, Repeat, Assign, Standing, standing, stmt_spots, target_width, header_spots}
 use Rattle.lv_source.specs.NodeRules.{is_bound, is_width, unknown_name, not_constant, zero_divisor, out_of_range, clock_use}
 
@@ -58,19 +59,6 @@ declaration_sites names d = elim d.thing [
   | Index g ↦ []
   | Instance ↦ []
   | Label ↦ []
-]
-
-abbrev pub port_width : Scope → Name → ℕ
-port_width child name = width_of (known (child.names (alone name)))
-
--- a connection of a clock is none of a signal; one of an output is written
-abbrev pub link_sites : Names → Scope → Link → List Site
-link_sites names child l = elim l.conn.value [
-  | None ↦ []
-  | Some x ↦
-      (if is_clock names x && is_clock_sort (known (child.names (alone l.port))).sort then []
-      else if list_any is_output (declared_as l.port child.declarations) then sink_sites names x
-      else expr_sites false names (port_width child l.port) x)
 ]
 
 abbrev pub inst_sites : Source → Scope → Names → List Conn → Inst → Option Module → List Site

@@ -41,6 +41,8 @@ pub data Way : Type 0 where
 pub record View : Type 0 where
   pub at : At
   pub way : Way
+  -- the places of clock names in it
+  pub clocks : List ℕ
   pub drives : List Bit
   pub reads : List Bit
   pub targets : List Aim
@@ -71,6 +73,7 @@ abbrev pub view_of : Part → View
 view_of p = record {
   at = p.at;
   way = way_of p.body;
+  clocks = p.clocks;
   drives = drives p;
   reads = reads p;
   targets = map aim_of (targets p);
@@ -136,6 +139,10 @@ clock_aims v = map (λ a. at_view v a.place) (filter (λ a. is_clock_sort a.sort
 
 abbrev pub clock_views : List View → List At
 clock_views vs = at_views vs (λ k v. edge_places v ++ clock_aims v)
+
+-- in expressions and targets
+abbrev pub named_clocks : List View → List At
+named_clocks vs = at_views vs (λ k v. map (at_view v) v.clocks)
 
 -- ---- Nonblocking and Blocking
 

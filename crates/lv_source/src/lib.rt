@@ -8,12 +8,12 @@ ghost use Rattle.lv_ast.specs.Names.{Name};
 ghost use Rattle.lv_source.specs.Names.{Names, Declared, Valuation};
 ghost use Rattle.lv_source.specs.Parts.{Design, At, top_scope, scopes_of, signals_of, declared_of, is_signal, registers_of, inputs_of, width_at};
 ghost use Rattle.lv_source.specs.Settled.{IsSettled, Follows, SameOn, SameInputs, IsRun, StartAlike, HasApartSignals};
-ghost use Rattle.lv_source.specs.Legal.{IsLegal, Kind, Refusal, HoldsAt, refusals, places_of};
+ghost use Rattle.lv_source.specs.Legal.{IsLegal, Kind, Port, ClockUse, Refusal, HoldsAt, refusals, places_of, top_clock};
 ghost use Rattle.lv_source.specs.Limits.{IsWithinLimits, HasSmallArrays};
 ghost use Rattle.lv_source.specs.Flow.{flow, is_latch, is_read_first};
 ghost use Rattle.lv_source.specs.Summary.{summary, leaves_latch, exposes_own};
 ghost use Rattle.lv_source.specs.Places.{Bit};
-ghost use Rattle.lv_source.specs.Views.{View, AreViewed};
+ghost use Rattle.lv_source.specs.Views.{View, AreViewed, views_of, named_clocks, clock_views};
 ghost use Rattle.lv_source.specs.Drivers.{Drivers, drivers, AreDriven};
 ghost use Rattle.lv_source.specs.Scopes.{Scope, module_named, children};
 ghost use Rattle.lv_source.specs.Preorder.{AreScopes, AreSome, AreSomeItems};
@@ -114,4 +114,9 @@ pub fn counts_only_grow()
 /// Nor is it with the first items of the next scope.
 pub fn items_only_add()
     ensures { (d : Design) (done us : List Scope) (s : Scope) (xs ys : List Item) → done ++ s ∷ us ≡ scopes_of d → xs ++ ys ≡ s.items → AreSomeItems d done s xs }
+{}
+
+/// Where no port is at fault, uses of clocks are told by the top and the views of parts alone.
+pub fn clock_uses_are_viewed()
+    ensures { (d : Design) → places_of d Port ≡ [] → places_of d ClockUse ≡ top_clock d ++ named_clocks (views_of d) ++ clock_views (views_of d) }
 {}

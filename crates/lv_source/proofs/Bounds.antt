@@ -248,9 +248,10 @@ range_by names n (Reg s range None) r e h = cc
 range_by names n (Reg s range (Some q)) r e h =
     let ok : is_range names false (Some q) ≡ true = and-right (is_range names true range) (is_range names false (Some q)) (told_none (is_range names true range && is_range names false (Some q)) n.place h) in
     let front : (is_bound (bound_number names q.left) && is_bound (bound_number names q.right)) ≡ true = and-left (is_bound (bound_number names q.left) && is_bound (bound_number names q.right)) _ ok in
-    let same_range : q ≡ r = some_same q r e in
-    (ap (λ (z : Range). is_bound (bound_number names z.left)) (sym same_range) ∙ and-left (is_bound (bound_number names q.left)) _ front,
-    ap (λ (z : Range). is_bound (bound_number names z.right)) (sym same_range) ∙ and-right (is_bound (bound_number names q.left)) _ front)
+    let same_range : q ≡ r = some_same q r e in (
+      ap (λ (z : Range). is_bound (bound_number names z.left)) (sym same_range) ∙ and-left (is_bound (bound_number names q.left)) _ front,
+      ap (λ (z : Range). is_bound (bound_number names z.right)) (sym same_range) ∙ and-right (is_bound (bound_number names q.left)) _ front,
+    )
 range_by names n (Direction o w s r) q e h = cc
 range_by names n (Wire s r) q e h = cc
 range_by names n (Parameter l s r v) q e h = cc
@@ -354,5 +355,8 @@ unfolding scopes_of signals_of places_of
 arrays_small d legal plain x i b e =
     from_small d plain (module_named d.source d.top)
     (λ m k. all_in plain_module d.source.modules m plain.plain (found_in (λ m. bytes_eq m.name.name d.top) d.source.modules m k))
-    (λ u k. (scopes_clean (not_constants d.source) (scopes_of d) (append-left _ _ (legal.nothing NotConstant)) u k,
-        scopes_clean (unknown_names d.source) (scopes_of d) (legal.nothing UnknownName) u k, scopes_clean (ranges d.source) (scopes_of d) (legal.nothing Range_kind) u k)) x i b e
+    (λ u k. (
+      scopes_clean (not_constants d.source) (scopes_of d) (append-left _ _ (legal.nothing NotConstant)) u k,
+      scopes_clean (unknown_names d.source) (scopes_of d) (legal.nothing UnknownName) u k,
+      scopes_clean (ranges d.source) (scopes_of d) (legal.nothing Range_kind) u k,
+    )) x i b e

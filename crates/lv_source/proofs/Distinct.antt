@@ -21,11 +21,11 @@ use Rattle.lv_source.specs.Declarations.{Label, Declaration, declare, of_item, o
 use Rattle.lv_source.specs.Meaning.{is_nil}
 use Rattle.lv_source.specs.Scopes.{Scope, module_named, instance_scope, instance_scopes, turn_scope, is_among, is_direction, children, children_by, counted_from, scopes_within}
 use Rattle.lv_source.specs.Parts.{Design, numbered_from, is_first, stands_here, put_by_place, by_place, scope_signals, signals_of, scopes_from, scopes_of, depth, top_scope, parts, is_register, register_signals, registers_of, inputs_of}
-use Rattle.lv_source.specs.Limits.{Size, nodes_alone, params_nodes, ports_nodes, item_size, scope_size, design_size, IsWithinLimits, HasSmallArrays}
+use Rattle.lv_source.specs.Limits.{Size, nodes_alone, params_nodes, ports_nodes, item_size, scope_size, design_size, IsWithinLimits}
 use Rattle.lv_source.specs.ScopeRules.{duplicates}
 use Rattle.lv_source.specs.Legal.{IsLegal, Duplicate, modules_again, places_of}
 use Rattle.lv_source.proofs.Tests.{and-left, and-right, same_name, name-itself, decide, not-true, or-left, or-right, or-split}
-use Rattle.lv_source.proofs.Refused.{In, in-right, in_contains}
+use Rattle.lv_source.proofs.Refused.{In, in-right}
 use Rattle.lv_source.proofs.FaultLaws.{in-flat, append-right, scopes_clean}
 use Rattle.lv_source.proofs.Paths.{IsPlain, IsIndex, ends, split_step, split_index, same_rest, left_same, below_same}
 use Rattle.lv_source.proofs.Trees.{HasCell, IsTold, AllTold, KidCell, OwnCell, in-from, indexed, signed_plain, cell_index, told_child, own_cell, own_kid, kid_cell, one_path}
@@ -33,6 +33,7 @@ use Rattle.lv_source.proofs.Kids.{Once, once, once-left, once-right, AllPlain, p
 use Rattle.lv_source.proofs.Shaped.{IsShaped, in_put, in_if, in_sorted, own_path, module_shaped, all_shaped, all_in, found_in, told}
 use Rattle.lv_source.proofs.Given.{any_in, mapped_in}
 use Rattle.lv_source.proofs.Drives.{cell_one}
+use Rattle.lv_source.proofs.Bounds.{arrays_small}
 use Rattle.lv_source.proofs.Apart.{Apart, apart-join, apart-imp, apart-map, apart-flat, apart-filter, in-filter}
 use Rattle.lv_source.proofs.Turns.{Differ, turns_differ}
 
@@ -342,9 +343,9 @@ no_input (Constant x) h k = cc
 no_input (Index g) h k = cc
 no_input Other h k = cc
 
-listed_apart : (d : Design) → HasSmallArrays d → (q : Declared → Bool) → Apart CellsDiffer (signals_of d) → Apart Differ (flat_map cells (filter q (signals_of d)))
+listed_apart : (d : Design) → ((x : Declared) → In x (signals_of d) → (b : Bounds) → x.array ≡ Some b → high b < 2 ^ 64) → (q : Declared → Bool) → Apart CellsDiffer (signals_of d) → Apart Differ (flat_map cells (filter q (signals_of d)))
 listed_apart d small q h =
-    apart-flat Differ cells (filter q (signals_of d)) (λ x i. cells_apart x.array x.path (λ b e. small.small x b (in_contains x (signals_of d) (in-filter q x (signals_of d) i).0) e))
+    apart-flat Differ cells (filter q (signals_of d)) (λ x i. cells_apart x.array x.path (λ b e. small x (in-filter q x (signals_of d) i).0 b e))
     (apart-imp CellsDiffer (λ x y. (m n : Name) → In m (cells x) → In n (cells y) → Differ m n) (filter q (signals_of d))
     (λ x y i j f m n a b e. f m (cell_in m (cells x) a) (cell_in m (cells y) (subst (λ (k : Name). In k (cells y)) (sym e) b))) (apart-filter CellsDiffer q (signals_of d) h))
 
@@ -357,8 +358,9 @@ unfolding IsDistinct
 is_distinct [] h = tt
 is_distinct (n ∷ ns) h = (all_differ n ns h.0, is_distinct ns h.1)
 
-pub paths_distinct : (d : Design) → IsLegal d → HasPlainNames d.source → IsWithinLimits d → HasSmallArrays d → IsDistinct bytes_eq (registers_of d ++ inputs_of d)
-paths_distinct d legal plain limits small =
+pub paths_distinct : (d : Design) → IsLegal d → HasPlainNames d.source → IsWithinLimits d → IsDistinct bytes_eq (registers_of d ++ inputs_of d)
+paths_distinct d legal plain limits =
+    let small : (x : Declared) → In x (signals_of d) → (b : Bounds) → x.array ≡ Some b → high b < 2 ^ 64 = arrays_small d legal plain in
     let differ : Apart CellsDiffer (signals_of d) = all_signals_differ d legal plain limits in
     is_distinct (registers_of d ++ inputs_of d)
     (apart-join Differ (registers_of d) (inputs_of d) (listed_apart d small (is_register (parts d)) differ) (listed_apart d small (λ x. is_input_sort x.sort) differ)

@@ -1,5 +1,5 @@
 -- The sizes of a design that have limits.
-use Rattle.std.specs.Prelude.{◌≡◌, ℕ, suc, ◌+◌, ◌≤◌, ◌<◌, ◌^◌, Contains, List, [], ◌∷◌, ◌++◌, map, length, sum, Option, Some, None}
+use Rattle.std.specs.Prelude.{ℕ, suc, ◌+◌, ◌≤◌, List, [], ◌∷◌, ◌++◌, map, length, sum, Option, Some, None}
 use Rattle.lv_ast.specs.declared.expr.Expr.{Expr}
 use Rattle.lv_ast.specs.declared.expr.Expr.TheOpen.{Expr-F, Select-F}
 use Rattle.lv_ast.specs.declared.stmt.Target.{Target}
@@ -14,10 +14,10 @@ use Rattle.lv_ast.specs.declared.item.Params.{Params}
 use Rattle.lv_ast.specs.declared.item.Ports.{Ports}
 use Rattle.lv_ast.specs.declared.item.Ports.TheVariants as p
 use Rattle.lv_ast.specs.Trees.{fold_expr, fold_select, fold_target, fold_stmt}
-use Rattle.lv_source.specs.Names.{Names, Declared, Bounds, high}
+use Rattle.lv_source.specs.Names.{Names}
 use Rattle.lv_source.specs.Effect.{ArmOf, arm_step, with_index, turns}
 use Rattle.lv_source.specs.Scopes.{Scope}
-use Rattle.lv_source.specs.Parts.{Design, parts, scopes_of, signals_of}
+use Rattle.lv_source.specs.Parts.{Design, parts, scopes_of}
 use Rattle.lv_source.specs.Settled.{register_bits}
 
 -- ---- nodes of expressions
@@ -138,7 +138,3 @@ pub record IsWithinLimits (d : Design) : Type 0 where
 -- the bits of all registers
 abbrev pub state_bits : Design → ℕ
 state_bits d = length (register_bits d)
-
--- the numbers of an array's elements are below 2^64
-pub record HasSmallArrays (d : Design) : Type 0 where
-  pub small : (x : Declared) (b : Bounds) → Contains (signals_of d) x → x.array ≡ Some b → high b < 2 ^ 64

@@ -9,7 +9,7 @@ ghost use Rattle.lv_source.specs.Names.{Names, Declared, Valuation};
 ghost use Rattle.lv_source.specs.Parts.{Design, At, top_scope, scopes_of, signals_of, declared_of, is_signal, registers_of, inputs_of, width_at};
 ghost use Rattle.lv_source.specs.Settled.{IsSettled, Follows, SameOn, SameInputs, IsRun, StartAlike, HasApartSignals};
 ghost use Rattle.lv_source.specs.Legal.{IsLegal, Kind, Port, ClockUse, Refusal, HoldsAt, refusals, places_of, top_clock};
-ghost use Rattle.lv_source.specs.Limits.{IsWithinLimits, HasSmallArrays};
+ghost use Rattle.lv_source.specs.Limits.{IsWithinLimits};
 ghost use Rattle.lv_source.specs.Flow.{flow, is_latch, is_read_first};
 ghost use Rattle.lv_source.specs.Summary.{summary, leaves_latch, exposes_own};
 ghost use Rattle.lv_source.specs.Places.{Bit};
@@ -81,9 +81,9 @@ pub fn signals_are_apart()
     ensures { (d : Design) → IsLegal d → HasPlainNames d.source → HasApartSignals d }
 {}
 
-/// Registers and inputs have distinct paths, where loops end within the limit and the numbers of arrays are small.
+/// Registers and inputs of a legal source have distinct paths, where the limits hold.
 pub fn registers_and_inputs_are_distinct()
-    ensures { (d : Design) → IsLegal d → HasPlainNames d.source → IsWithinLimits d → HasSmallArrays d → IsDistinct bytes_eq (registers_of d ++ inputs_of d) }
+    ensures { (d : Design) → IsLegal d → HasPlainNames d.source → IsWithinLimits d → IsDistinct bytes_eq (registers_of d ++ inputs_of d) }
 {}
 
 /// A child of a scope of the design is one of its scopes.

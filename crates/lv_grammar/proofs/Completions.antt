@@ -1,5 +1,5 @@
 -- What begins as an expression is completed by tokens: in place of the names and literals that are still to come the simplest stand.
-use Rattle.std.proofs.Common.{◌≡◌, ℕ, zero, suc, ◌+◌, ◌≤◌, ◌%◌, ◌^◌, nat_lt, List, [], ◌∷◌, ◌++◌, map, length, Bool, true, false, inl, inr, refl, sym, ◌∙◌, ap, subst, append_assoc, append-nil, arith, codes}
+use Rattle.std.proofs.Common.{◌≡◌, ℕ, zero, suc, ◌+◌, ◌≤◌, ◌%◌, ◌^◌, nat_lt, List, [], ◌∷◌, ◌++◌, map, length, Bool, true, false, inl, inr, refl, sym, ◌∙◌, ap, subst, append-nil, arith, codes}
 use Rattle.std.proofs.Math.Nat.{zero-mod}
 use Rattle.std.proofs.lemmas.List.{map-append}
 use Rattle.lv_ast.specs.Tokens as tok

@@ -1,5 +1,5 @@
 -- Expressions are as the table says.
-use Rattle.std.proofs.Common.{◌≡◌, ℕ, ◌+◌, ◌≤◌, List, [], ◌∷◌, ◌++◌, map, Bool, true, false, not, ◌&&◌, ◌||◌, ◌==◌, ◌⊎◌, inl, inr, bytes_eq, nat_lt, refl, sym, ◌∙◌, ap, subst, append_assoc, arith}
+use Rattle.std.proofs.Common.{◌≡◌, ℕ, List, [], ◌∷◌, ◌++◌, Bool, true, false, not, ◌||◌, inl, inr, refl, sym, ◌∙◌, ap, append_assoc, arith}
 use Rattle.std.proofs.lemmas.List.{map-append}
 use Rattle.lv_ast.specs.TokenLists.{kind_number}
 use Rattle.lv_ast.specs.declared.tokens.Kind.{Kind}
@@ -7,18 +7,16 @@ use Rattle.lv_ast.specs.declared.tokens.Kind.TheVariants as k
 use Rattle.lv_ast.specs.declared.expr.Expr.{Expr}
 use Rattle.lv_exprs.specs.declared.symbol.Symbol.{Symbol}
 use Rattle.lv_exprs.specs.declared.symbol.Symbol.TheVariants as t
-use Rattle.lv_exprs.specs.declared.symbol.Sign.{Sign}
 use Rattle.lv_exprs.specs.Symbols.{kind_symbol, mark_symbol}
-use Rattle.lv_exprs.specs.Levels.{level, leads}
+use Rattle.lv_exprs.specs.Levels.{leads}
 use Rattle.lv_exprs.specs.Forms.{Form, plain, based, sized, name, dot, bit, part, prefix, binary, choice, paren, cast, pair, brace, repeat, text, is_free, Valid, IsExpr, Begins}
-use Rattle.lv_exprs.specs.Forms as forms
 use Rattle.lv_exprs.specs.Trees as trees
 use Rattle.lv_exprs.specs.Laws.{goes_on}
 use Rattle.lv_exprs.proofs.Continued as laws
 use Rattle.lv_viable.specs.Facts.{AreLeaves}
 use Rattle.lv_viable.specs.Sets.{is_in, some_of, all_of, others}
-use Rattle.lv_viable.proofs.Lists.{and_left, and_right, true_false, nil_cons, nil_behind, same_head}
-use Rattle.lv_grammar.specs.Lexemes.{Lexeme, place_of}
+use Rattle.lv_viable.proofs.Lists.{and_left, and_right, true_false, nil_cons, same_head}
+use Rattle.lv_grammar.specs.Lexemes.{Lexeme}
 use Rattle.lv_grammar.specs.Shapes.{Shape, word, mark, fits, base, table, Leaf, value, label, Placed, never_leads, never_follows}
 use Rattle.lv_grammar.specs.Shapes as shapes
 use Rattle.lv_grammar.specs.Leaves.{symbol_of, symbols_of, ValidAt, IsExpression}

@@ -1,5 +1,5 @@
 -- Which tokens spell which expression, and the two languages of the source: without limits, and within them.
-use Rattle.std.specs.Prelude.{◌≡◌, ℕ, ◌≤◌, List, map, Bool, false}
+use Rattle.std.specs.Prelude.{◌≡◌, ℕ, ◌≤◌, List, map, false}
 use Rattle.lv_ast.specs.declared.expr.Expr.{Expr}
 use Rattle.lv_exprs.specs.declared.symbol.Symbol.{Symbol}
 use Rattle.lv_exprs.specs.Symbols.{kind_symbol}

@@ -1,5 +1,5 @@
 -- What a reader of expressions answers, of tokens with their bytes.
-use Rattle.std.proofs.Common.{◌≡◌, ℕ, zero, suc, ◌+◌, ◌-◌, ◌≤◌, ◌<◌, List, [], ◌∷◌, ◌++◌, map, take, drop, length, Bool, true, false, Result, Ok, Err, MatchResult, IfOk, inl, inr, refl, sym, ◌∙◌, ap, subst, add-one, take-add, append-nil, arith}
+use Rattle.std.proofs.Common.{◌≡◌, ℕ, zero, suc, ◌+◌, ◌-◌, ◌≤◌, ◌<◌, List, [], ◌∷◌, ◌++◌, take, drop, length, true, false, Result, Ok, Err, MatchResult, IfOk, inl, inr, refl, sym, ◌∙◌, ap, subst, take-add, arith}
 use Rattle.std.proofs.Math.Seq.{take-append_seam, drop-append_seam}
 use Rattle.std.proofs.lemmas.List.{take-append-drop, take-map, drop-map, drop-drop, length-drop, length-append, map-append}
 use Rattle.lv_ast.specs.declared.tokens.Token.{Token}
@@ -19,11 +19,11 @@ use Rattle.lv_viable.specs.Grammar.{Gram, leaf, act}
 use Rattle.lv_viable.specs.Sets.{is_good}
 use Rattle.lv_viable.specs.Spelling.{Limit}
 use Rattle.lv_viable.specs.Reading.{Reads, Fails, PassesLimit, Begins}
-use Rattle.lv_grammar.specs.Lexemes.{Lexeme, lexeme, lexemes, head, place_of}
+use Rattle.lv_grammar.specs.Lexemes.{Lexeme, lexeme, lexemes, place_of}
 use Rattle.lv_grammar.specs.Shapes.{Leaf, value, label, Placed, base, table}
 use Rattle.lv_grammar.specs.Rules as rules
-use Rattle.lv_grammar.specs.Leaves.{symbol_of, symbols_of, ValidAt, IsExpression, IsLowExpression, all, within}
-use Rattle.lv_parser.specs.Answers.{from, placed, placed_result, IsRead, IsRefused, Refuses, Answer, GoesOn}
+use Rattle.lv_grammar.specs.Leaves.{symbol_of, symbols_of, ValidAt, IsExpression, all, within}
+use Rattle.lv_parser.specs.Answers.{from, placed, placed_result, IsRead, IsRefused, Answer, GoesOn}
 use Rattle.lv_viable.proofs.Lists.{true_false, nil_cons}
 use Rattle.lv_grammar.proofs.Expressions.{begins}
 use Rattle.lv_parser.proofs.Paths.{begin, through, last, refuse_last}

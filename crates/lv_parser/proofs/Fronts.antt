@@ -1,17 +1,17 @@
 -- The token with a number, and those from it on.
-use Rattle.std.proofs.Common.{◌≡◌, ℕ, zero, suc, ◌+◌, ◌≤◌, List, [], ◌∷◌, ◌||◌, map, drop, length, Bool, true, false, Option, Some, None, slice_get, Result, Ok, Err, MatchResult, refl, sym, ◌∙◌, ap, subst, add-one}
+use Rattle.std.proofs.Common.{◌≡◌, ℕ, zero, suc, ◌+◌, ◌≤◌, List, [], ◌∷◌, drop, length, false, Some, None, slice_get, Result, Ok, Err, refl, sym, ◌∙◌, ap, subst, add-one}
 use Rattle.std.specs.Result.{IsErrAnd}
 use Rattle.lv_ast.specs.declared.tokens.Token.{Token}
 use Rattle.lv_exprs.specs.declared.error.SyntaxError.{SyntaxError}
 use Rattle.lv_exprs.specs.declared.error.SyntaxError.TheVariants as error
-use Rattle.lv_viable.specs.Grammar.{Gram, one, act}
+use Rattle.lv_viable.specs.Grammar.{Gram, one}
 use Rattle.lv_viable.specs.Spelling.{Limit}
 use Rattle.lv_viable.specs.Sets.{some_of}
 use Rattle.lv_viable.proofs.Readers.{one_fails}
 use Rattle.lv_grammar.specs.Lexemes.{Lexeme, lexeme, lexemes, head, place_of}
 use Rattle.lv_grammar.specs.Shapes.{Shape, Rule, Placed, base, fits, stands, rule_leads}
 use Rattle.lv_grammar.specs.Shapes as shapes
-use Rattle.lv_parser.specs.Answers.{from, leads, placed_result, IsRead, IsRefused, Answer}
+use Rattle.lv_parser.specs.Answers.{from, leads, placed_result, IsRefused, Answer}
 use Rattle.lv_grammar.proofs.Settings.{setting}
 use Rattle.lv_parser.proofs.Paths.{lacks_of}
 

@@ -1,5 +1,5 @@
 -- How a reader of a list goes on whose entries form groups.
-use Rattle.std.proofs.Common.{◌≡◌, ℕ, ◌+◌, List, [], ◌∷◌, ◌++◌, Bool, true, false, not, Option, Some, None, refl, sym, ◌∙◌, ap, subst, append_assoc, append-nil, codes}
+use Rattle.std.proofs.Common.{◌≡◌, ℕ, ◌+◌, List, [], ◌∷◌, ◌++◌, true, false, not, Option, Some, None, refl, sym, ◌∙◌, ap, subst, append_assoc, append-nil, codes}
 use Rattle.lv_ast.specs.declared.tokens.Token.{Token}
 use Rattle.lv_exprs.specs.declared.error.SyntaxError.{SyntaxError}
 use Rattle.lv_exprs.specs.declared.error.SyntaxError.TheVariants as error
@@ -18,10 +18,10 @@ use Rattle.lv_grammar.specs.Leaves.{all, within}
 use Rattle.lv_grammar.specs.Rules.{comma, grouped, groups, all_groups}
 use Rattle.lv_parser.specs.Answers.{from, IsRead, Refuses, IsRefused}
 use Rattle.lv_parser.specs.Paths.{Path}
-use Rattle.lv_parser.specs.Steps.{closed, grown, grown_by}
+use Rattle.lv_parser.specs.Steps.{closed, grown}
 use Rattle.lv_parser.specs.Grouping.{Grouped}
 use Rattle.lv_grammar.proofs.Settings.{setting}
-use Rattle.lv_parser.proofs.Paths.{begin, through, then, last, refuse, refuse_last, token_read, opens, absent}
+use Rattle.lv_parser.proofs.Paths.{begin, through, then, last, refuse_last, token_read, opens, absent}
 
 -- an entry with its comma
 abbrev more : {H X : Type 0} → Gram base H → Gram base X → Gram base (Lexeme × (Option H × X))

@@ -1,8 +1,7 @@
 -- Names.
-use Rattle.std.proofs.Common.{◌≡◌, ℕ, ◌+◌, ◌≤◌, List, length, true, false, Option, Some, None, slice_get, refl, sym, ◌∙◌, ap, subst}
+use Rattle.std.proofs.Common.{◌≡◌, ℕ, ◌+◌, ◌≤◌, List, length, true, false, Some, None, slice_get, refl, sym, ◌∙◌, ap, subst}
 use Rattle.lv_ast.specs.Tokens.{token_bytes}
 use Rattle.lv_ast.specs.declared.tokens.Token.{Token}
-use Rattle.lv_ast.specs.declared.stmt.Ident.{Ident}
 use Rattle.lv_exprs.specs.declared.error.SyntaxError.TheVariants as error
 use Rattle.lv_viable.specs.Spelling.{Limit}
 use Rattle.lv_grammar.specs.Lexemes.{lexeme, name_by, ident_of, head}

@@ -1,5 +1,5 @@
 -- How a reader goes on, part by part.
-use Rattle.std.proofs.Common.{◌≡◌, ℕ, zero, suc, ◌+◌, ◌≤◌, List, [], ◌∷◌, ◌++◌, map, drop, length, Bool, true, false, not, Option, Some, None, refl, sym, ◌∙◌, ap, subst, append_assoc, add-one, codes}
+use Rattle.std.proofs.Common.{◌≡◌, ℕ, zero, suc, ◌+◌, List, [], ◌∷◌, ◌++◌, drop, true, false, not, Option, Some, None, refl, sym, ◌∙◌, ap, subst, add-one, codes}
 use Rattle.std.proofs.lemmas.List.{map-append}
 use Rattle.lv_ast.specs.declared.tokens.Token.{Token}
 use Rattle.lv_exprs.specs.declared.error.SyntaxError.{SyntaxError}
@@ -8,10 +8,8 @@ use Rattle.lv_viable.specs.Grammar.{Gram, OneOf, left, right, one, act, both, ei
 use Rattle.lv_viable.specs.Spelling.{Limit}
 use Rattle.lv_viable.specs.Sets.{these, apart, shapes, among, may_be_empty, first, next, is_good}
 use Rattle.lv_viable.specs.Nexts.{Next, Lacks, Outside, Opens}
-use Rattle.lv_viable.specs.At.{Way, StandingUntil}
+use Rattle.lv_viable.specs.At.{StandingUntil}
 use Rattle.lv_viable.proofs.Readers.{next_read}
-use Rattle.lv_viable.proofs.Straight as straight
-use Rattle.lv_viable.proofs.Repeats as repeats
 use Rattle.lv_viable.proofs.Loops as loops
 use Rattle.lv_viable.proofs.Rounds as rounds
 use Rattle.lv_viable.proofs.Good as good
@@ -22,7 +20,7 @@ use Rattle.lv_grammar.specs.Lexemes.{Lexeme, lexemes, head}
 use Rattle.lv_grammar.specs.Shapes.{Shape, base, table, fits, stands}
 use Rattle.lv_grammar.specs.Shapes as shapes
 use Rattle.lv_grammar.specs.Leaves.{all, within, limits}
-use Rattle.lv_grammar.specs.Rules.{rules, comma, list, behind, before, first_and_others}
+use Rattle.lv_grammar.specs.Rules.{rules, comma, list, behind}
 use Rattle.lv_parser.specs.Answers.{from, IsRead, Refuses, IsRefused}
 use Rattle.lv_parser.specs.Paths.{Path, Listed, Taken}
 use Rattle.lv_grammar.proofs.Settings.{setting}

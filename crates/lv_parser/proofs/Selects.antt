@@ -1,27 +1,24 @@
 -- Selects, names with selects, and targets.
-use Rattle.std.proofs.Common.{◌≡◌, ℕ, zero, suc, ◌+◌, ◌-◌, ◌<◌, ◌≤◌, List, [], ◌∷◌, ◌++◌, length, Bool, true, false, Result, Ok, Err, refl, sym, ◌∙◌, ap, subst, append_assoc, codes, arith}
+use Rattle.std.proofs.Common.{◌≡◌, ℕ, ◌+◌, List, [], ◌∷◌, ◌++◌, true, false, refl, sym, ◌∙◌, ap, subst, append_assoc, codes}
 use Rattle.lv_ast.specs.declared.tokens.Token.{Token}
 use Rattle.lv_ast.specs.declared.expr.Expr.{Expr}
 use Rattle.lv_ast.specs.declared.expr.Path.{Path as ExprPath}
 use Rattle.lv_ast.specs.declared.expr.Select.{Select}
 use Rattle.lv_grammar.specs.declared.parts.Span.TheVariants as span
-use Rattle.lv_ast.specs.declared.stmt.Ident.{Ident}
 use Rattle.lv_exprs.specs.declared.error.SyntaxError.{SyntaxError}
 use Rattle.lv_exprs.specs.declared.error.SyntaxError.TheVariants as error
-use Rattle.lv_viable.specs.Grammar.{Gram, OneOf, left, right, either, many, act, one}
-use Rattle.lv_viable.specs.Spelling.{Limit, IsSpelled}
-use Rattle.lv_viable.specs.Sets.{is_good}
-use Rattle.lv_viable.specs.Nexts.{Opens, Outside}
+use Rattle.lv_viable.specs.Grammar.{Gram, OneOf, right, either, many}
+use Rattle.lv_viable.specs.Spelling.{Limit}
+use Rattle.lv_viable.specs.Nexts.{Opens}
 use Rattle.lv_viable.specs.At.{Standing}
-use Rattle.lv_viable.specs.Reading.{Reads, Fails, PassesLimit, Begins}
 use Rattle.lv_viable.proofs.Loops as loops
 use Rattle.lv_viable.proofs.Rounds as rounds
-use Rattle.lv_grammar.specs.Lexemes.{Lexeme, head, place_of, ident_of}
+use Rattle.lv_grammar.specs.Lexemes.{Lexeme, place_of}
 use Rattle.lv_grammar.specs.Shapes.{base, table, stands}
 use Rattle.lv_grammar.specs.Shapes as shapes
 use Rattle.lv_grammar.specs.Leaves.{all, within}
 use Rattle.lv_grammar.specs.Rules as rules
-use Rattle.lv_parser.specs.Answers.{from, IsRead, Refuses, IsRefused, Answer}
+use Rattle.lv_parser.specs.Answers.{from, IsRead, Refuses, IsRefused}
 use Rattle.lv_parser.specs.Paths.{Path, Counted}
 use Rattle.lv_grammar.proofs.Settings.{setting}
 use Rattle.lv_parser.proofs.Paths.{begin, through, last, to_left, to_right, opens, other, absent, token_read}

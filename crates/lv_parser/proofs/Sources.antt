@@ -1,5 +1,5 @@
 -- The whole source: what its reader's answers say of all tokens.
-use Rattle.std.proofs.Common.{◌≡◌, ℕ, zero, suc, ◌+◌, ◌-◌, ◌≤◌, ◌<◌, List, [], ◌∷◌, ◌++◌, map, take, drop, length, Bool, true, false, Result, Ok, Err, MatchResult, refl, sym, ◌∙◌, ap, subst, append_assoc, append-nil, codes, arith, length-drop}
+use Rattle.std.proofs.Common.{◌≡◌, ℕ, zero, suc, ◌-◌, ◌≤◌, ◌<◌, List, [], ◌∷◌, ◌++◌, take, drop, length, Bool, true, false, Result, Ok, Err, MatchResult, refl, sym, ◌∙◌, ap, subst, append-nil, codes, arith, length-drop}
 use Rattle.std.proofs.lemmas.List.{take-append-drop, append_cancel_right, drop_all, length-map}
 use Rattle.std.specs.Result.{IsErrAnd}
 use Rattle.lv_ast.specs.declared.tokens.Token.{Token}
@@ -7,7 +7,6 @@ use Rattle.lv_ast.specs.declared.item.Module.{Module}
 use Rattle.lv_ast.specs.declared.item.Source.{Source}
 use Rattle.lv_exprs.specs.declared.error.SyntaxError.{SyntaxError}
 use Rattle.lv_exprs.specs.declared.error.SyntaxError.TheVariants as error
-use Rattle.lv_viable.specs.Grammar.{Gram, many}
 use Rattle.lv_viable.specs.Spelling.{IsSpelled}
 use Rattle.lv_viable.specs.Reading.{Begins, Reads, Fails, PassesLimit}
 use Rattle.lv_viable.specs.Nexts.{Outside, Opens}
@@ -24,8 +23,8 @@ use Rattle.lv_grammar.specs.Lexemes.{Lexeme, lexeme, lexemes}
 use Rattle.lv_grammar.specs.Shapes.{base, table, stands}
 use Rattle.lv_grammar.specs.Shapes as shapes
 use Rattle.lv_grammar.specs.Leaves.{all, low, limits}
-use Rattle.lv_grammar.specs.Rules.{module_rule, source_rule, source_of}
-use Rattle.lv_parser.specs.Answers.{from, front, IsRead, Refuses, IsRefused, IsSource, IsWrong, IsDeep, RefusesSource}
+use Rattle.lv_grammar.specs.Rules.{module_rule, source_rule}
+use Rattle.lv_parser.specs.Answers.{from, front, IsRead, IsRefused, IsSource, IsWrong, IsDeep, RefusesSource}
 use Rattle.lv_parser.specs.Sources.{Sourced}
 use Rattle.lv_grammar.proofs.Settings.{setting}
 use Rattle.lv_parser.proofs.Paths.{begin, through, then, refuse, opens, absent}

@@ -1,5 +1,5 @@
 -- How statements are read.
-use Rattle.std.proofs.Common.{◌≡◌, ℕ, zero, suc, ◌+◌, ◌-◌, ◌<◌, ◌≤◌, List, [], ◌∷◌, ◌++◌, length, Bool, true, false, ◌||◌, ◌&&◌, cond, Option, Some, None, Result, Ok, Err, MatchResult, ◌⊎◌, inl, inr, refl, sym, ◌∙◌, ap, subst, arith, codes}
+use Rattle.std.proofs.Common.{◌≡◌, ℕ, suc, ◌+◌, ◌-◌, ◌<◌, ◌≤◌, List, [], ◌∷◌, ◌++◌, length, Bool, true, false, ◌||◌, cond, Option, Some, None, Result, Ok, Err, MatchResult, ◌⊎◌, inl, inr, refl, sym, ◌∙◌, ap, subst, arith, codes}
 use Rattle.std.specs.Result.{IsErrAnd}
 use Rattle.lv_ast.specs.declared.tokens.Token.{Token}
 use Rattle.lv_ast.specs.declared.expr.Expr.{Expr}
@@ -9,7 +9,7 @@ use Rattle.lv_ast.specs.declared.stmt.Stmt.TheVariants as stmt
 use Rattle.lv_ast.specs.declared.stmt.Arm.{Arm}
 use Rattle.lv_exprs.specs.declared.error.SyntaxError.{SyntaxError}
 use Rattle.lv_exprs.specs.declared.error.SyntaxError.TheVariants as error
-use Rattle.lv_viable.specs.Grammar.{Gram, OneOf, left, right, one, call, act, both, either, until, tail}
+use Rattle.lv_viable.specs.Grammar.{Gram, call, until, tail}
 use Rattle.lv_viable.specs.Spelling.{Limit, most, allows, lowered, inside}
 use Rattle.lv_viable.specs.Sets as viable
 use Rattle.lv_viable.specs.Sets.{some_of, all_of, among, is_in, is_good, these, first, apart}
@@ -17,10 +17,10 @@ use Rattle.lv_viable.specs.Nexts.{Outside, Opens}
 use Rattle.lv_viable.proofs.Good as good
 use Rattle.lv_viable.proofs.Ways as ways
 use Rattle.lv_viable.proofs.Lists.{true_false, and_left, and_right}
-use Rattle.lv_grammar.specs.Lexemes.{Lexeme, head, place_of}
+use Rattle.lv_grammar.specs.Lexemes.{Lexeme, place_of}
 use Rattle.lv_grammar.specs.Shapes.{Shape, Rule, base, table, stands, rule_leads}
 use Rattle.lv_grammar.specs.Shapes as shapes
-use Rattle.lv_grammar.specs.Leaves.{all, within, limits}
+use Rattle.lv_grammar.specs.Leaves.{all}
 use Rattle.lv_grammar.specs.Rules as rules
 use Rattle.lv_parser.specs.Answers.{from, leads, placed, IsRead, Refuses, IsRefused, Answer, AnswersStmts}
 use Rattle.lv_parser.specs.Paths.{Path, Taken}

@@ -1,5 +1,5 @@
 -- How targets are read.
-use Rattle.std.proofs.Common.{◌≡◌, ℕ, zero, suc, ◌+◌, ◌-◌, ◌<◌, ◌≤◌, List, [], ◌∷◌, length, Bool, true, false, cond, Result, Ok, Err, refl, sym, ◌∙◌, ap, subst, codes, arith}
+use Rattle.std.proofs.Common.{◌≡◌, ℕ, suc, ◌-◌, ◌<◌, ◌≤◌, List, length, Bool, true, false, cond, Result, Err, refl, sym, ◌∙◌, ap, subst, codes, arith}
 use Rattle.lv_ast.specs.declared.tokens.Token.{Token}
 use Rattle.lv_ast.specs.declared.expr.Path.{Path as ExprPath}
 use Rattle.lv_ast.specs.declared.expr.Select.{Select}
@@ -7,16 +7,16 @@ use Rattle.lv_ast.specs.declared.stmt.Target.{Target}
 use Rattle.lv_ast.specs.declared.stmt.Target.TheVariants as target
 use Rattle.lv_exprs.specs.declared.error.SyntaxError.{SyntaxError}
 use Rattle.lv_exprs.specs.declared.error.SyntaxError.TheVariants as error
-use Rattle.lv_viable.specs.Grammar.{Gram, call, act}
+use Rattle.lv_viable.specs.Grammar.{call, act}
 use Rattle.lv_viable.specs.Spelling.{Limit, most, allows, lowered, inside}
 use Rattle.lv_grammar.specs.Shapes.{Placed, base, stands}
 use Rattle.lv_grammar.specs.Shapes as shapes
 use Rattle.lv_grammar.specs.Rules as rules
-use Rattle.lv_parser.specs.Answers.{from, leads, placed, placed_result, IsRead, IsRefused, Answer, AnswersTargets}
+use Rattle.lv_parser.specs.Answers.{from, leads, placed, IsRead, IsRefused, AnswersTargets}
 use Rattle.lv_parser.specs.Paths.{Path}
-use Rattle.lv_parser.proofs.Paths.{begin, through, last, refuse_last, to_left, to_right, other, absent}
+use Rattle.lv_parser.proofs.Paths.{begin, through, last, other, absent}
 use Rattle.lv_parser.proofs.Selects.{named_place}
-use Rattle.lv_parser.proofs.StatementPaths.{ruled, none_left, carried, to_first, to_other}
+use Rattle.lv_parser.proofs.StatementPaths.{ruled, none_left, to_first, to_other}
 
 suc_of : (n : ℕ) → 0 < n → n ≡ suc (n - 1)
 suc_of n h = omega arith

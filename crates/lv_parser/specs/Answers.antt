@@ -1,5 +1,5 @@
 -- What a reader answers that begins at a token, and what `read_source` answers.
-use Rattle.std.specs.Prelude.{◌≡◌, ℕ, suc, ◌+◌, ◌≤◌, ◌<◌, List, [], ◌∷◌, Bool, false, length, take, drop, MatchResult, Result, Ok, Err}
+use Rattle.std.specs.Prelude.{◌≡◌, ℕ, suc, ◌≤◌, ◌<◌, List, [], ◌∷◌, Bool, false, length, take, drop, MatchResult, Result, Ok, Err}
 use Rattle.lv_ast.specs.declared.tokens.Token.{Token}
 use Rattle.lv_ast.specs.declared.item.Source.{Source}
 use Rattle.lv_exprs.specs.declared.error.SyntaxError.{SyntaxError}

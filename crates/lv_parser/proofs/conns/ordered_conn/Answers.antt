@@ -1,4 +1,4 @@
-use Rattle.std.proofs.Common.{◌≡◌, ℕ, Option, None, Some, refl, ap}
+use Rattle.std.proofs.Common.{ℕ, Option, None, Some, refl, ap}
 use Rattle.lv_grammar.specs.Rules as rules
 use Rattle.lv_parser.proofs.Paths.{begin, through, last, refuse_last}
 use Rattle.lv_parser.proofs.Fronts.{exit}

@@ -1,4 +1,4 @@
-use Rattle.std.proofs.Common.{◌-◌, ◌≤◌, ◌<◌, length}
+use Rattle.std.proofs.Common.{◌-◌, ◌≤◌, length}
 use Rattle.lv_parser.specs.Sources.{Sourced}
 use Rattle.lv_parser.proofs.modules.read_source.Given as goal
 

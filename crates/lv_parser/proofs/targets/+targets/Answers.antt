@@ -1,6 +1,4 @@
 use Rattle.std.proofs.Common.{◌+◌, Ok, refl, sym, ◌∙◌, arith}
-use Rattle.lv_viable.specs.Grammar.{call}
-use Rattle.lv_grammar.specs.Shapes as shapes
 use Rattle.lv_grammar.specs.Rules as rules
 use Rattle.lv_parser.proofs.Paths.{begin, through, then, last, refuse, refuse_last, listed, list_refused, list_more, list_stops, list_ends}
 use Rattle.lv_parser.proofs.Fronts.{exit, exit_placed}

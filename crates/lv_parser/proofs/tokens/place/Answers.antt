@@ -1,4 +1,4 @@
-use Rattle.std.proofs.Common.{sym, ◌∙◌}
+use Rattle.std.proofs.Common.{sym}
 use Rattle.lv_parser.proofs.Fronts.{place_some, place_none}
 use Rattle.lv_parser.proofs.tokens.place.Goals as goal
 

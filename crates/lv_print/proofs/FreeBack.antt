@@ -7,7 +7,8 @@ use Rattle.std.proofs.lemmas.Nat.{div-add-mod', mod-pow-add}
 use Rattle.std.proofs.lemmas.Nat.Bits.{bit_at_lowest, bit_at-suc, bit_at_above, bit_at_cat_low}
 use Rattle.std.proofs.Math.Pow.{pow_pos}
 use Rattle.std.proofs.Math.Nat.{mod-lt, pow-suc, div-eq_of_lt, div-div-eq-div-mul, mod-one, div-one}
-use Rattle.lv_exprs.specs.Literals.{is_passed, is_free_digit, digit, digit_bits, digits_number, leads_free}
+use Rattle.lv_ast.specs.Tokens.{is_free, digit_value, digits_number, value_digit, free_digit}
+use Rattle.lv_exprs.specs.Literals.{leads_free}
 use Rattle.lv_print.specs.Literals.{free_glyph, free_digits, gives_back, first_from, fewest}
 use Rattle.lv_print.proofs.DigitRules.{free_digits-none, free_digits-more, first-none, first-more}
 use Rattle.lv_print.proofs.DigitBack.{both, check_below, checked, number_snoc}
@@ -50,23 +51,30 @@ not-true : (b : Bool) → not b ≡ true → b ≡ false
 not-true true h = absurd (true≢false (sym h))
 not-true false h = refl
 
-free-passed : (v w : ℕ) → is_passed (free_glyph v w) ≡ false
-free-passed v w = elim (w % 2 == 1) as (λ b. is_passed (if b then 63 else 48 + v % 2) ≡ false) [ true ↦ refl | false ↦ not-true _ (check-bit (λ c. not (is_passed c)) refl v) ]
+free-passed : (v w : ℕ) → (free_glyph v w == 95) ≡ false
+free-passed v w = elim (w % 2 == 1) as (λ b. ((if b then 63 else 48 + v % 2) == 95) ≡ false) [ true ↦ refl | false ↦ not-true _ (check-bit (λ c. not (c == 95)) refl v) ]
 
-free-is : (v w : ℕ) → is_free_digit (free_glyph v w) ≡ (w % 2 == 1)
-free-is v w = elim (w % 2 == 1) as (λ b. is_free_digit (if b then 63 else 48 + v % 2) ≡ b) [ true ↦ refl | false ↦ not-true _ (check-bit (λ c. not (is_free_digit c)) refl v) ]
+bit-free : (v : ℕ) → is_free (48 + v % 2) ≡ false
+unfolding is_free
+bit-free v = not-true _ (check-bit (λ c. not (is_free c)) refl v)
 
-same-digit : (v : ℕ) → digit (48 + v % 2) ≡ v % 2
-same-digit v = eqb-true _ _ (checked (λ b. digit (48 + b) == b) 2 (v % 2) refl (mod-lt v {m = 2} (omega arith)))
+free-is : (v w : ℕ) → is_free (free_glyph v w) ≡ (w % 2 == 1)
+unfolding is_free
+free-is v w = elim (w % 2 == 1) as (λ b. is_free (if b then 63 else 48 + v % 2) ≡ b) [ true ↦ refl | false ↦ bit-free v ]
 
-value-bit : (v w : ℕ) → Apart v w → digit_bits false 2 (free_glyph v w) ≡ v % 2
+same-digit : (v : ℕ) → digit_value (48 + v % 2) ≡ v % 2
+unfolding digit_value
+same-digit v = eqb-true _ _ (checked (λ b. digit_value (48 + b) == b) 2 (v % 2) refl (mod-lt v {m = 2} (omega arith)))
+
+value-bit : (v w : ℕ) → Apart v w → value_digit (free_glyph v w) ≡ v % 2
+unfolding is_free
 value-bit v w h =
-    elim (w % 2 == 1) as (λ b. (w % 2 == 1) ≡ b → (if is_free_digit (if b then 63 else 48 + v % 2) then 0 else digit (if b then 63 else 48 + v % 2)) ≡ v % 2) [
+    elim (w % 2 == 1) as (λ b. (w % 2 == 1) ≡ b → (if is_free (if b then 63 else 48 + v % 2) then 0 else digit_value (if b then 63 else 48 + v % 2)) ≡ v % 2) [
       | true ↦ λ e. sym (apart_low v w h (eqb-true _ _ e))
-      | false ↦ λ e. ap (λ b. if b then 0 else digit (48 + v % 2)) (not-true _ (check-bit (λ c. not (is_free_digit c)) refl v)) ∙ same-digit v
+      | false ↦ λ e. ap (λ b. if b then 0 else digit_value (48 + v % 2)) (bit-free v) ∙ same-digit v
     ] refl
 
-wild-bit : (v w : ℕ) → digit_bits true 2 (free_glyph v w) ≡ w % 2
+wild-bit : (v w : ℕ) → free_digit 2 (free_glyph v w) ≡ w % 2
 wild-bit v w =
     ap (λ b. if b then 2 - 1 else 0) (free-is v w) ∙
     elim (w % 2 == 1) as (λ b. (w % 2 == 1) ≡ b → (if b then 2 - 1 else 0) ≡ w % 2) [
@@ -82,20 +90,22 @@ step k v w = (let e : suc k - 1 ≡ k = omega arith in free_digits-more (suc k) 
 mod-step : (k v : ℕ) → ((v / 2) % 2 ^ k) * 2 + v % 2 ≡ v % 2 ^ suc k
 mod-step k v = sym (mod-pow-add v k 1) ∙ (let e : k + 1 ≡ suc k = omega arith in ap (λ j. v % 2 ^ j) e)
 
-pub free_value : (k v w : ℕ) → Apart v w → digits_number false 2 0 (free_digits k v w) ≡ v % 2 ^ k
-free_value zero v w h = ap (digits_number false 2 0) (free_digits-none 0 v w refl) ∙ sym (mod-one v)
+pub free_value : (k v w : ℕ) → Apart v w → digits_number value_digit 2 0 (free_digits k v w) ≡ v % 2 ^ k
+unfolding digits_number
+free_value zero v w h = ap (digits_number value_digit 2 0) (free_digits-none 0 v w refl) ∙ sym (mod-one v)
 free_value (suc k) v w h =
-    ap (digits_number false 2 0) (step k v w) ∙ number_snoc false 2 0 (free_glyph v w) (free_digits k (v / 2) (w / 2)) (free-passed v w) ∙
-    ap (λ z. z * 2 + digit_bits false 2 (free_glyph v w)) (free_value k (v / 2) (w / 2) (apart_half v w h)) ∙ ap (λ z. ((v / 2) % 2 ^ k) * 2 + z) (value-bit v w h) ∙ mod-step k v
+    ap (digits_number value_digit 2 0) (step k v w) ∙ number_snoc value_digit 2 0 (free_glyph v w) (free_digits k (v / 2) (w / 2)) (free-passed v w) ∙
+    ap (λ z. z * 2 + value_digit (free_glyph v w)) (free_value k (v / 2) (w / 2) (apart_half v w h)) ∙ ap (λ z. ((v / 2) % 2 ^ k) * 2 + z) (value-bit v w h) ∙ mod-step k v
 
 onward : (a p q x b : ℕ) → q ≡ p * 2 → (a * p + x) * 2 + b ≡ a * q + (x * 2 + b)
 onward a p q x b e = ap (λ z. (a * p + x) * 2 + b) e ∙ (let f : a * q ≡ a * (p * 2) = ap (λ z. a * z) e in omega (arith, f))
 
-pub free_wild : (k a v w : ℕ) → digits_number true 2 a (free_digits k v w) ≡ a * 2 ^ k + w % 2 ^ k
-free_wild zero a v w = ap (digits_number true 2 a) (free_digits-none 0 v w refl) ∙ (let e : w % 1 ≡ 0 = mod-one w in omega (arith, e))
+pub free_wild : (k a v w : ℕ) → digits_number (free_digit 2) 2 a (free_digits k v w) ≡ a * 2 ^ k + w % 2 ^ k
+unfolding digits_number
+free_wild zero a v w = ap (digits_number (free_digit 2) 2 a) (free_digits-none 0 v w refl) ∙ (let e : w % 1 ≡ 0 = mod-one w in omega (arith, e))
 free_wild (suc k) a v w =
-    ap (digits_number true 2 a) (step k v w) ∙ number_snoc true 2 a (free_glyph v w) (free_digits k (v / 2) (w / 2)) (free-passed v w) ∙
-    ap (λ z. z * 2 + digit_bits true 2 (free_glyph v w)) (free_wild k a (v / 2) (w / 2)) ∙ ap (λ z. (a * 2 ^ k + (w / 2) % 2 ^ k) * 2 + z) (wild-bit v w) ∙
+    ap (digits_number (free_digit 2) 2 a) (step k v w) ∙ number_snoc (free_digit 2) 2 a (free_glyph v w) (free_digits k (v / 2) (w / 2)) (free-passed v w) ∙
+    ap (λ z. z * 2 + free_digit 2 (free_glyph v w)) (free_wild k a (v / 2) (w / 2)) ∙ ap (λ z. (a * 2 ^ k + (w / 2) % 2 ^ k) * 2 + z) (wild-bit v w) ∙
     onward a (2 ^ k) (2 ^ suc k) ((w / 2) % 2 ^ k) (w % 2) (pow-suc 2 k) ∙ ap (λ z. a * 2 ^ suc k + z) (mod-step k w)
 
 half-more : (k v : ℕ) → v / 2 / 2 ^ k ≡ v / 2 ^ suc k
@@ -111,7 +121,7 @@ free_first (suc k) v w =
 
 pub free_leads : (k v w : ℕ) → leads_free (free_digits (suc k) v w) ≡ ((w / 2 ^ k) % 2 == 1)
 free_leads k v w =
-    ap leads_free (free_first k v w) ∙ ap (λ b. if b then leads_free (free_digits k v w) else is_free_digit (free_glyph (v / 2 ^ k) (w / 2 ^ k))) (free-passed (v / 2 ^ k) (w / 2 ^ k)) ∙
+    ap leads_free (free_first k v w) ∙ ap (λ b. if b then leads_free (free_digits k v w) else is_free (free_glyph (v / 2 ^ k) (w / 2 ^ k))) (free-passed (v / 2 ^ k) (w / 2 ^ k)) ∙
     free-is (v / 2 ^ k) (w / 2 ^ k)
 
 free-char : (p : ℕ → Bool) → p 63 ≡ true → check_below (λ b. p (48 + b)) 2 ≡ true → (v w : ℕ) → p (free_glyph v w) ≡ true

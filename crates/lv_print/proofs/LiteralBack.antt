@@ -7,12 +7,11 @@ use Rattle.std.proofs.lemmas.Nat.Bits.{ones_shr}
 use Rattle.std.proofs.Math.Pow.{pow_pos}
 use Rattle.std.proofs.Math.Nat.{mod-lt, mod-eq_of_lt}
 use Rattle.lv_ast.specs.Names.{is_letter}
-use Rattle.lv_ast.specs.Tokens.{is_blank, is_digit, is_number_byte, is_free, is_sign, digit_value, base_of, is_base_digit, is_base_byte, without_sign, without_blanks, is_digits, is_base_and_digits, kind_if, kind_of}
+use Rattle.lv_ast.specs.Tokens.{is_blank, is_digit, is_number_byte, is_free, is_sign, digit_value, base_of, digits_number, value_digit, free_digit, tail, head_base, based_signed, based_base, based_digits, is_base_digit, is_base_byte, without_sign, without_blanks, is_digits, is_base_and_digits, kind_if, kind_of}
 use Rattle.lv_ast.specs.declared.tokens.Kind.TheVariants as k
 use Rattle.lv_ast.specs.declared.expr.Literal.{Literal}
 use Rattle.lv_exprs.specs.declared.symbol.Based.{Based}
-use Rattle.lv_exprs.specs.Literals as lit
-use Rattle.lv_exprs.specs.Literals.{is_signed_letter, is_passed, digits_number, leads_free, above, number_of, based_digits, based_of}
+use Rattle.lv_exprs.specs.Literals.{above, number_of, based_literal, based_of}
 use Rattle.lv_print.specs.Literals.{glyph, decimal, hexadecimal, free_glyph, free_digits, gives_back, fewest, digits_width, sign_letter, base_and_digits, number_token, based_token}
 use Rattle.lv_print.proofs.Tokenized.{IsWhole}
 use Rattle.lv_print.proofs.DigitBack.{both, check_below, digits_value, digits_wild, digits_all, digits_leads, digits_some, HasFirst}
@@ -89,7 +88,7 @@ number_whole n h =
 
 pub number_back : (n place : ℕ) → n < 2 ^ 128 → number_of place (decimal n) ≡ record { place = place; value = n }
 number_back n place h =
-    let e : digits_number false 10 0 (decimal n) % 2 ^ 128 ≡ n = ap (λ z. z % 2 ^ 128) (digits_value 10 128 n (omega arith) (omega arith) (omega arith) (below-ten n h)) ∙ mod-eq_of_lt {n = n} {m = 2 ^ 128} h in
+    let e : digits_number value_digit 10 0 (decimal n) % 2 ^ 128 ≡ n = ap (λ z. z % 2 ^ 128) (digits_value 10 128 n (omega arith) (omega arith) (omega arith) (below-ten n h)) ∙ mod-eq_of_lt {n = n} {m = 2 ^ 128} h in
     λ i. record { place = place; value = e i }
 
 -- ---- based tokens
@@ -107,6 +106,11 @@ digits-good base c s h =
     let q = both (base-digit base c) (list_all (base-digit base) s) h in
     let r = both (not (is_blank c)) (is_base_digit base c) q.0 in
     ap (λ b. is_digits base (if b then without_blanks s else c ∷ s)) (not-true _ r.0) ∙ ap (λ b. b && list_all (is_base_byte base) s) r.1 ∙ all-imply (base-digit base) (is_base_byte base) (digit-byte base) s q.1
+
+no-blanks : (base : ℕ) (s : List ℕ) → list_all (base-digit base) s ≡ true → without_blanks s ≡ s
+unfolding without_blanks
+no-blanks base [] h = refl
+no-blanks base (c ∷ s) h = ap (λ b. if b then without_blanks s else c ∷ s) (not-true _ (both (not (is_blank c)) (is_base_digit base c) (both (base-digit base c) (list_all (base-digit base) s) h).0).0)
 
 -- a letter and its digits
 base-good : (letter c : ℕ) (s : List ℕ) → (base_of letter == 0) ≡ false → list_all (base-digit (base_of letter)) (c ∷ s) ≡ true → is_base_and_digits (letter ∷ c ∷ s) ≡ true
@@ -222,22 +226,25 @@ module _ (l : Literal) (given : IsGiven l) where
 
   -- ---- reading it
 
-  read-signed : (place letter base : ℕ) (s : List ℕ) (signed : Bool) → is_signed_letter letter ≡ false → lit.base_of letter ≡ base → based_of place (39 ∷ (sign_letter signed ++ (letter ∷ s))) ≡ based_digits place signed base s
-  read-signed place letter base s true f e = ap (λ b. based_digits place true b s) e
-  read-signed place letter base s false f e =
-      ap (λ b. based_digits place b (lit.first_base (if b then s else letter ∷ s)) (lit.behind_base (if b then s else letter ∷ s))) f ∙ ap (λ b. based_digits place false b s) e
+  read-signed : (place letter base : ℕ) (s : List ℕ) (signed : Bool) → is_sign letter ≡ false → base_of letter ≡ base → without_blanks s ≡ s →
+      based_of place (39 ∷ (sign_letter signed ++ (letter ∷ s))) ≡ based_literal place signed base s
+  unfolding based_signed based_base based_digits without_sign is_sign
+  read-signed place letter base s true f e w = ap (λ b. based_literal place true b (without_blanks s)) e ∙ ap (λ z. based_literal place true base z) w
+  read-signed place letter base s false f e w =
+      ap (λ b. based_literal place b (head_base (if b then s else letter ∷ s)) (without_blanks (tail (if b then s else letter ∷ s)))) f ∙
+      ap (λ b. based_literal place false b (without_blanks s)) e ∙ ap (λ z. based_literal place false base z) w
 
   cut-zero : (o : Option ℕ) → cut_by o 0 ≡ 0
   cut-zero None = refl
   cut-zero (Some n) = mod-eq_of_lt {n = 0} {m = 2 ^ n} (pow_pos n)
 
-  hexadecimal-back : (place : ℕ) → l.wild ≡ 0 → GivesBack l (based_digits place l.signed 16 (hexadecimal l.value))
+  hexadecimal-back : (place : ℕ) → l.wild ≡ 0 → GivesBack l (based_literal place l.signed 16 (hexadecimal l.value))
   hexadecimal-back place z =
-      let v : digits_number false 16 0 (hexadecimal l.value) % 2 ^ 128 ≡ l.value =
+      let v : digits_number value_digit 16 0 (hexadecimal l.value) % 2 ^ 128 ≡ l.value =
       ap (λ z. z % 2 ^ 128) (digits_value 16 128 l.value (omega arith) (omega arith) (omega arith) (below-sixteen l.value given.value)) ∙ mod-eq_of_lt {n = l.value} {m = 2 ^ 128} given.value in
       let a : above (hexadecimal l.value) ≡ 0 = ap (λ b. if b then 2 ^ 128 - 1 else 0) (digits_leads 16 128 l.value (omega arith) (omega arith) (omega arith)) in
-      let w : digits_number true 16 (above (hexadecimal l.value)) (hexadecimal l.value) % 2 ^ 128 ≡ 0 =
-      ap (λ z. digits_number true 16 z (hexadecimal l.value) % 2 ^ 128) a ∙ ap (λ z. z % 2 ^ 128) (digits_wild 16 128 l.value (omega arith) (omega arith)) in
+      let w : digits_number (free_digit 16) 16 (above (hexadecimal l.value)) (hexadecimal l.value) % 2 ^ 128 ≡ 0 =
+      ap (λ z. digits_number (free_digit 16) 16 z (hexadecimal l.value) % 2 ^ 128) a ∙ ap (λ z. z % 2 ^ 128) (digits_wild 16 128 l.value (omega arith) (omega arith)) in
       record {
         signed = refl;
         value = ap (cut_by l.size) v ∙ given.value_cut;
@@ -318,18 +325,18 @@ module _ (l : Literal) (given : IsGiven l) where
       ap (λ z. cut_by l.size (z % 2 ^ 128)) e ∙ ap (cut_by l.size) (mod-eq_of_lt {n = l.wild} {m = 2 ^ 128} given.wild) ∙ given.wild_cut
 
   free-back-by : (k place : ℕ) (t : Bool) → suc k ≤ width → width ≤ 128 → (((l.wild / 2 ^ k) % 2) == 1) ≡ t → GivesDigits width l.value l.wild (suc k) →
-      GivesBack l (based_digits place l.signed 2 (free_digits (suc k) l.value l.wild))
+      GivesBack l (based_literal place l.signed 2 (free_digits (suc k) l.value l.wild))
   free-back-by k place t h m e g =
       let n : suc k - 1 ≡ k = omega arith in
       let p : 2 ^ suc k ≤ 2 ^ 128 = power-le (suc k) 128 (omega (arith, h, m)) in
       let s : 0 < 2 ^ suc k = pow_pos (suc k) in
       let r : l.wild % 2 ^ suc k < 2 ^ suc k = mod-lt l.wild {m = 2 ^ suc k} s in
       let whole-value : l.value % 2 ^ suc k ≡ l.value = under l.value (2 ^ suc k) g.value in
-      let v : digits_number false 2 0 (free_digits (suc k) l.value l.wild) % 2 ^ 128 ≡ l.value =
+      let v : digits_number value_digit 2 0 (free_digits (suc k) l.value l.wild) % 2 ^ 128 ≡ l.value =
       ap (λ z. z % 2 ^ 128) (free_value (suc k) l.value l.wild given.apart ∙ whole-value) ∙ mod-eq_of_lt {n = l.value} {m = 2 ^ 128} given.value in
       let a : above (free_digits (suc k) l.value l.wild) ≡ (if t then 2 ^ 128 - 1 else 0) = ap (λ b. if b then 2 ^ 128 - 1 else 0) (free_leads k l.value l.wild ∙ e) in
-      let w : digits_number true 2 (above (free_digits (suc k) l.value l.wild)) (free_digits (suc k) l.value l.wild) ≡ (if t then 2 ^ 128 - 1 else 0) * 2 ^ suc k + l.wild % 2 ^ suc k =
-      ap (λ z. digits_number true 2 z (free_digits (suc k) l.value l.wild)) a ∙ free_wild (suc k) (if t then 2 ^ 128 - 1 else 0) l.value l.wild in
+      let w : digits_number (free_digit 2) 2 (above (free_digits (suc k) l.value l.wild)) (free_digits (suc k) l.value l.wild) ≡ (if t then 2 ^ 128 - 1 else 0) * 2 ^ suc k + l.wild % 2 ^ suc k =
+      ap (λ z. digits_number (free_digit 2) 2 z (free_digits (suc k) l.value l.wild)) a ∙ free_wild (suc k) (if t then 2 ^ 128 - 1 else 0) l.value l.wild in
       let q : l.wild / 2 ^ suc k ≡ (if t then (2 ^ width - 1) / 2 ^ suc k else 0) =
       g.wild ∙ ap (λ j. if (l.wild / 2 ^ j) % 2 == 1 then (2 ^ width - 1) / 2 ^ suc k else 0) n ∙ ap (λ b. if b then (2 ^ width - 1) / 2 ^ suc k else 0) e in
       record {
@@ -345,18 +352,18 @@ module _ (l : Literal) (given : IsGiven l) where
       let d : HasDigits l = has-digits l given f in
       let least : 1 ≤ count = i.least in
       let n : count ≡ suc (count - 1) = omega (arith, least) in
-      let same : based_of place (based_token l).bytes ≡ based_digits place l.signed 2 (free_digits count l.value l.wild) =
+      let same : based_of place (based_token l).bytes ≡ based_literal place l.signed 2 (free_digits count l.value l.wild) =
       ap (λ b. based_of place (39 ∷ (sign_letter l.signed ++ (if b then 98 ∷ free_digits count l.value l.wild else 104 ∷ hexadecimal l.value)))) e ∙
-      read-signed place 98 2 (free_digits count l.value l.wild) l.signed refl refl in
+      read-signed place 98 2 (free_digits count l.value l.wild) l.signed no-sign-b binary-base (no-blanks 2 _ (free_all (base-digit 2) free-mark free-bits count l.value l.wild)) in
       let g : GivesDigits width l.value l.wild (suc (count - 1)) = subst (GivesDigits width l.value l.wild) n (gives_digits width l.value l.wild count i.passes) in
-      let back : GivesBack l (based_digits place l.signed 2 (free_digits (suc (count - 1)) l.value l.wild)) =
+      let back : GivesBack l (based_literal place l.signed 2 (free_digits (suc (count - 1)) l.value l.wild)) =
       free-back-by (count - 1) place _ (subst (λ z. z ≤ width) n i.most) d.most refl g in
-      subst (GivesBack l) (sym (same ∙ ap (λ z. based_digits place l.signed 2 (free_digits z l.value l.wild)) n)) back
+      subst (GivesBack l) (sym (same ∙ ap (λ z. based_literal place l.signed 2 (free_digits z l.value l.wild)) n)) back
   back-by place false e =
       let z : l.wild ≡ 0 = (let f : l.wild ≤ 0 = ltb-false 0 l.wild e in omega (arith, f)) in
-      let same : based_of place (based_token l).bytes ≡ based_digits place l.signed 16 (hexadecimal l.value) =
+      let same : based_of place (based_token l).bytes ≡ based_literal place l.signed 16 (hexadecimal l.value) =
       ap (λ b. based_of place (39 ∷ (sign_letter l.signed ++ (if b then 98 ∷ free_digits count l.value l.wild else 104 ∷ hexadecimal l.value)))) e ∙
-      read-signed place 104 16 (hexadecimal l.value) l.signed refl refl in
+      read-signed place 104 16 (hexadecimal l.value) l.signed no-sign-h hexadecimal-base (no-blanks 16 _ (digits_all (base-digit 16) 16 128 l.value (omega arith) check-hexadecimal)) in
       subst (GivesBack l) (sym same) (hexadecimal-back place z)
 
 pub based_whole : (l : Literal) → IsGiven l → IsWhole (based_token l)

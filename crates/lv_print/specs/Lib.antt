@@ -1,5 +1,4 @@
 pub mod Written
-pub mod Keywords
 pub mod Paper
 pub mod Literals
 pub mod Expressions

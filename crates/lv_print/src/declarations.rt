@@ -9,6 +9,7 @@ use crate::lists::{Print, commas};
 use crate::paper::Paper;
 use lv_ast::{Aport, Expr, Ident, NetName, Params, PortWord, Range, RegName, Setting};
 use lv_bits::NoMemory;
+use lv_held::Held;
 use std::alloc::Global;
 
 impl Print for Ident {
@@ -25,9 +26,9 @@ fn range(paper: &mut Paper, alloc: Global, range: &Range) -> Result<(), NoMemory
     ensures { OnOk result (paper.new ≡ with_tokens paper.old (sources.range_tokens range.now)) }
 {
     paper.mark(b"[")?;
-    expr(paper, alloc, &range.left)?;
+    expr(paper, alloc, range.left.get())?;
     paper.mark(b":")?;
-    expr(paper, alloc, &range.right)?;
+    expr(paper, alloc, range.right.get())?;
     paper.mark(b"]")
 }
 
@@ -65,7 +66,7 @@ impl Print for Setting {
     fn print(&self, paper: &mut Paper, alloc: Global) -> Result<(), NoMemory> {
         paper.name(&self.name.name)?;
         paper.mark(b"=")?;
-        expr(paper, alloc, &self.value)
+        expr(paper, alloc, self.value.get())
     }
 }
 
@@ -131,12 +132,12 @@ pub fn value(paper: &mut Paper, alloc: Global, e: &Expr) -> Result<(), NoMemory>
 }
 
 #[tactic(auto, using(crate::proofs::Papers::writing))]
-fn value_if(paper: &mut Paper, alloc: Global, e: &Option<Expr>) -> Result<(), NoMemory>
+fn value_if(paper: &mut Paper, alloc: Global, e: &Option<Held<Expr>>) -> Result<(), NoMemory>
     ensures { OnOk result (paper.new ≡ with_tokens paper.old (sources.perhaps sources.value_tokens e.now)) }
 {
     match e {
         None => Ok(()),
-        Some(e) => value(paper, alloc, e),
+        Some(e) => value(paper, alloc, e.get()),
     }
 }
 

@@ -10,9 +10,11 @@ use crate::lists::{Print, commas, hash, in_parens};
 use crate::paper::Paper;
 use crate::statements::{loop_next, loop_start, stmt, target};
 use lv_ast::{
-    Conn, Continuous, Expr, Ident, Inst, Item, Module, NetName, Ports, Range, RegName, Watch,
+    Conn, Continuous, Expr, Ident, Inst, Item, Module, NetName, Params, Ports, Range, RegName,
+    Watch,
 };
 use lv_bits::NoMemory;
+use lv_held::Held;
 use std::alloc::Global;
 
 impl Print for Continuous {
@@ -21,7 +23,7 @@ impl Print for Continuous {
     #[tactic(auto, using(crate::proofs::Papers::writing))]
     fn print(&self, paper: &mut Paper, alloc: Global) -> Result<(), NoMemory> {
         target(paper, alloc, &self.target)?;
-        value(paper, alloc, &self.value)
+        value(paper, alloc, self.value.get())
     }
 }
 
@@ -46,12 +48,12 @@ fn watch(paper: &mut Paper, event: &Watch) -> Result<(), NoMemory>
 }
 
 #[tactic(auto, using(crate::proofs::Papers::writing))]
-fn expr_if(paper: &mut Paper, alloc: Global, e: &Option<Expr>) -> Result<(), NoMemory>
+fn expr_if(paper: &mut Paper, alloc: Global, e: &Option<Held<Expr>>) -> Result<(), NoMemory>
     ensures { OnOk result (paper.new ≡ with_tokens paper.old (sources.perhaps tokens.expr_tokens e.now)) }
 {
     match e {
         None => Ok(()),
-        Some(e) => expr(paper, alloc, e),
+        Some(e) => expr(paper, alloc, e.get()),
     }
 }
 
@@ -60,7 +62,7 @@ fn named_conn(
     paper: &mut Paper,
     alloc: Global,
     name: &Ident,
-    e: &Option<Expr>,
+    e: &Option<Held<Expr>>,
 ) -> Result<(), NoMemory>
     ensures { OnOk result (paper.new ≡ with_tokens paper.old (sources.conn_of (Option.Some name.now) (sources.perhaps tokens.expr_tokens e.now))) }
 {
@@ -146,6 +148,38 @@ fn params_word(paper: &mut Paper, is_local: bool) -> Result<(), NoMemory>
 }
 
 #[tactic(auto, using(crate::proofs::Papers::writing))]
+fn indices(paper: &mut Paper, alloc: Global, genvar: bool, names: &[Ident]) -> Result<(), NoMemory>
+    ensures { OnOk result (paper.new ≡ with_tokens paper.old (sources.index_word genvar ∷ (written.commas (map sources.ident_tokens names.now) ++ sources.end))) }
+{
+    index_word(paper, genvar)?;
+    commas(paper, alloc, names)?;
+    paper.mark(b";")
+}
+
+#[tactic(auto, using(crate::proofs::Papers::writing))]
+fn parameters(
+    paper: &mut Paper,
+    alloc: Global,
+    is_local: bool,
+    list: &Params,
+) -> Result<(), NoMemory>
+    ensures { OnOk result (paper.new ≡ with_tokens paper.old (sources.params_word is_local ∷ (sources.params_tokens list.now ++ sources.end))) }
+{
+    params_word(paper, is_local)?;
+    params(paper, alloc, list)?;
+    paper.mark(b";")
+}
+
+#[tactic(auto, using(crate::proofs::Papers::writing))]
+fn assigns(paper: &mut Paper, alloc: Global, list: &[Continuous]) -> Result<(), NoMemory>
+    ensures { OnOk result (paper.new ≡ with_tokens paper.old (written.word (codes "assign") ∷ (written.commas (map sources.continuous_tokens list.now) ++ sources.end))) }
+{
+    paper.word(b"assign")?;
+    commas(paper, alloc, list)?;
+    paper.mark(b";")
+}
+
+#[tactic(auto, using(crate::proofs::Papers::writing))]
 fn instances(
     paper: &mut Paper,
     alloc: Global,
@@ -197,21 +231,9 @@ fn item(paper: &mut Paper, alloc: Global, x: &Item) -> Result<(), NoMemory>
         }
         Item::Wire(signed, range, names) => wires(paper, alloc, *signed, range, names.as_slice()),
         Item::Reg(signed, range, names) => regs(paper, alloc, *signed, range, names.as_slice()),
-        Item::Index(genvar, names) => {
-            index_word(paper, *genvar)?;
-            commas(paper, alloc, names.as_slice())?;
-            paper.mark(b";")
-        }
-        Item::Params(local, list) => {
-            params_word(paper, *local)?;
-            params(paper, alloc, list)?;
-            paper.mark(b";")
-        }
-        Item::Assign(list) => {
-            paper.word(b"assign")?;
-            commas(paper, alloc, list.as_slice())?;
-            paper.mark(b";")
-        }
+        Item::Index(genvar, names) => indices(paper, alloc, *genvar, names.as_slice()),
+        Item::Params(local, list) => parameters(paper, alloc, *local, list),
+        Item::Assign(list) => assigns(paper, alloc, list.as_slice()),
         Item::Always(event, body, _) => {
             paper.word(b"always")?;
             paper.mark(b"@")?;
@@ -227,8 +249,8 @@ fn item(paper: &mut Paper, alloc: Global, x: &Item) -> Result<(), NoMemory>
             paper.word(b"endgenerate")
         }
         Item::Loop(index, start, test, again, next, label, list) => {
-            loop_start(paper, alloc, index, start, test)?;
-            loop_next(paper, alloc, again, next)?;
+            loop_start(paper, alloc, index, start.get(), test.get())?;
+            loop_next(paper, alloc, again, next.get())?;
             block(paper, alloc, label, list.as_slice())
         }
     }

@@ -4,7 +4,6 @@
 mod declarations;
 mod expr;
 mod items;
-mod keywords;
 mod last;
 mod laws;
 mod lists;

@@ -4,22 +4,9 @@ ghost use Rattle.lv_ast.specs.Names as names;
 ghost use Rattle.lv_print.specs.Paper.{put};
 ghost use Rattle.lv_print.specs.Written.{name};
 
-use crate::keywords::is_keyword;
 use crate::paper::Paper;
-use lv_ast::Kind;
+use lv_ast::{Kind, is_inner, is_keyword, is_letter};
 use lv_bits::{NoMemory, Text};
-
-fn is_letter(c: u8) -> bool
-    ensures { result ≡ names.is_letter c }
-{
-    (b'a' <= c && c <= b'z') || (b'A' <= c && c <= b'Z') || c == b'_'
-}
-
-fn is_inner(c: u8) -> bool
-    ensures { result ≡ names.is_inner c }
-{
-    is_letter(c) || (b'0' <= c && c <= b'9') || c == b'$'
-}
 
 fn are_inner(bytes: &[u8]) -> bool
     ensures { result ≡ list_all names.is_inner bytes.now }

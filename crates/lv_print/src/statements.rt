@@ -8,6 +8,7 @@ use crate::expr::{expr, exprs, path, selects};
 use crate::paper::Paper;
 use lv_ast::{Arm, Expr, Ident, Stmt, Target};
 use lv_bits::NoMemory;
+use lv_held::Held;
 use sqlite_items::Boxed;
 use std::alloc::Global;
 
@@ -133,11 +134,11 @@ fn labels(paper: &mut Paper, alloc: Global, list: &[Expr]) -> Result<(), NoMemor
 
 /// Writes an expression in parentheses.
 #[tactic(auto, using(crate::proofs::SourceRules::source_rules))]
-fn condition(paper: &mut Paper, alloc: Global, e: &Expr) -> Result<(), NoMemory>
+fn condition(paper: &mut Paper, alloc: Global, e: &Held<Expr>) -> Result<(), NoMemory>
     ensures { OnOk result (paper.new ≡ with_tokens paper.old (tokens.parens (tokens.expr_tokens e.now))) }
 {
     paper.mark(b"(")?;
-    expr(paper, alloc, e)?;
+    expr(paper, alloc, e.get())?;
     paper.mark(b")")
 }
 
@@ -215,11 +216,11 @@ pub fn stmt(paper: &mut Paper, alloc: Global, s: &Stmt) -> Result<(), NoMemory>
             paper.word(b"endcase")
         }
         Stmt::Loop(index, start, test, again, next, body) => {
-            loop_start(paper, alloc, index, start, test)?;
-            loop_next(paper, alloc, again, next)?;
+            loop_start(paper, alloc, index, start.get(), test.get())?;
+            loop_next(paper, alloc, again, next.get())?;
             stmt(paper, alloc, body.get())
         }
-        Stmt::Now(x, y, _) => assigned(paper, alloc, b"=", x, y),
-        Stmt::Later(x, y, _) => assigned(paper, alloc, b"<=", x, y),
+        Stmt::Now(x, y, _) => assigned(paper, alloc, b"=", x, y.get()),
+        Stmt::Later(x, y, _) => assigned(paper, alloc, b"<=", x, y.get()),
     }
 }

@@ -10,6 +10,10 @@ mod clauses;
 #[cfg(test)]
 mod gates;
 #[cfg(test)]
+mod goals;
+#[cfg(test)]
+mod graphs;
+#[cfg(test)]
 mod propagation;
 #[cfg(test)]
 mod simulation;

@@ -73,7 +73,7 @@ bits_seam list pre [] rest k e f = refl
 bits_seam list pre (x ∷ d) rest k e f =
     let place : k - 1 ≡ length pre = omega arith in
     let here : at_place list k ≡ x =
-        ap (λ (l : List Bool). get_or l (k - 1) false) e ∙ (ap (λ (j : ℕ). get_or (pre ++ (x ∷ (d ++ rest))) j false) place ∙ get_or-append_seam pre x (d ++ rest) false) in
+    ap (λ (l : List Bool). get_or l (k - 1) false) e ∙ (ap (λ (j : ℕ). get_or (pre ++ (x ∷ (d ++ rest))) j false) place ∙ get_or-append_seam pre x (d ++ rest) false) in
     let more : k + 1 ≡ length (pre ++ x ∷ []) + 1 = omega (arith, f, length-append pre (x ∷ [])) in
     let later : bits_from (at_place list) (k + 1) (length d) ≡ d = bits_seam list (pre ++ x ∷ []) d rest (k + 1) (e ∙ sym (append_assoc pre (x ∷ []) (d ++ rest))) more in
     cc
@@ -87,7 +87,7 @@ words_seam list pre (x ∷ xs) k h e f =
     let value : number (bits_from (at_place list) k x.width) ≡ x.value = ap number here ∙ number_digits x.width x.value h.0 in
     let next : k + x.width ≡ length (pre ++ d) + 1 = omega (arith, f, n, length-append pre d) in
     let later : words_from (at_place list) (k + x.width) (widths_of xs) ≡ xs =
-        words_seam list (pre ++ d) xs (k + x.width) h.1 (e ∙ sym (append_assoc pre d (all_digits xs))) next in
+    words_seam list (pre ++ d) xs (k + x.width) h.1 (e ∙ sym (append_assoc pre d (all_digits xs))) next in
     ap (λ (v : ℕ). (let y : Bits = record { width = x.width; value = v } in y) ∷ words_from (at_place list) (k + x.width) (widths_of xs)) value ∙ ap (λ (ys : List Bits). x ∷ ys) later
 
 -- some values of the variables from 1 on have these words

@@ -30,7 +30,11 @@ impl Model for Encoded {
 
 impl Drop for Encoded {
     fn drop(self) {
-        let Encoded { set, widths, gates: _ } = self;
+        let Encoded {
+            set,
+            widths,
+            gates: _,
+        } = self;
         drop(set);
         drop(widths);
     }
@@ -70,18 +74,6 @@ impl Encoded {
         ensures { result ≡ self.now.gates }
     {
         self.gates
-    }
-
-    /// The number of bits of all inputs: these are the first variables.
-    pub fn bits(&self) -> u64
-        ensures is { result ≡ sum self.now.widths }
-        ensures within { result ≤ self.now.set.vars }
-    {
-        let mut bits = 0;
-        for width in self.widths.as_slice() {
-            bits += u64::from(*width);
-        }
-        bits
     }
 
     /// The inputs whose bits the assignment has, in order; they make the goal 1.

@@ -12,6 +12,10 @@ mod costs;
 #[cfg(test)]
 mod gates;
 #[cfg(test)]
+mod goals;
+#[cfg(test)]
+mod graphs;
+#[cfg(test)]
 mod propagation;
 #[cfg(test)]
 mod session;

@@ -100,7 +100,7 @@ fn looks_at_few_clauses(rt: HostRuntime) -> Result<(), Fail> {
     let Ok((all, looked)) = looks(rt.alloc(), 1000) else {
         return Err(Fail::from("no memory"));
     };
-    assert!(rt; all && looked <= 2000, "{looked} clauses");
+    assert!(rt; all && 999 <= looked && looked <= 2000, "{looked} clauses");
     Ok(())
 }
 

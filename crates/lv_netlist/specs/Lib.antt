@@ -2,3 +2,4 @@ pub mod Fits
 pub mod Net
 pub mod Run
 pub mod Stepping
+pub mod Queries

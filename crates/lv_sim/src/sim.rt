@@ -10,7 +10,6 @@ use std::alloc::Global;
 use std::marker::Model;
 
 /// A graph in some cycle: the words of its registers, and those of its nodes at the last settle. Each call gets the graph of `new`.
-#[derive(Drop)]
 pub struct Sim {
     state: Vec<Word>,
     values: Vec<Word>,
@@ -22,6 +21,14 @@ impl Model for Sim {
     ghost Value = { Simulation };
 
     ghost view = { λ s. record { state = s.state.items; values = s.values.items } };
+}
+
+impl Drop for Sim {
+    fn drop(self) {
+        let Sim { state, values } = self;
+        drop(state);
+        drop(values);
+    }
 }
 
 impl Sim {

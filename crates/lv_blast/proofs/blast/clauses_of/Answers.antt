@@ -43,7 +43,9 @@ pub returns-clause-widths : goal.returns-clause-widths
 returns-clause-widths c = ap (λ (x : EncodedGoal). x.widths) c.new.ensures ∙ c.in_ok-widths.ensures.widths
 
 pub returns-clause-gates : goal.returns-clause-gates
-returns-clause-gates c = ?
+returns-clause-gates c =
+    subst (λ (x : EncodedGoal). CountsGates x.set x.gates) (sym c.new.ensures)
+    (subst (CountsGates c.in_ok-set.set) (sym c.len-gates.ensures) c.in_ok-set.ensures.gates)
 
 pub returns-clause-few : goal.returns-clause-few
 returns-clause-few c = subst IsFew (sym (ap (λ (x : EncodedGoal). x.set) c.new.ensures)) c.in_ok-set.ensures.few

@@ -1,5 +1,5 @@
 use Rattle.lv_blast.specs.Encoding.{input_widths}
-use Rattle.lv_blast.proofs.Inputs.{words_fit, words_are, values_there}
+use Rattle.lv_blast.proofs.Words.{words_fit, words_are, values_there}
 use Rattle.lv_blast.proofs.blast.inputs_are_bits.Goals as goal
 
 pub returns : goal.returns

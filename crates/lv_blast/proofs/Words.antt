@@ -35,10 +35,10 @@ widths_are net xs h =
     ext_get_or 0 (widths_of xs) (input_widths net)
     (length-map xs (λ (x : Bits). x.width) ∙ (h.count ∙ sym (length-map net.inputs (λ (p : List ℕ × ℕ). p.1))))
     (λ i lt.
-      let same : length (widths_of xs) ≡ length xs = length-map xs (λ (x : Bits). x.width) in
-      let l : get_or (widths_of xs) i 0 ≡ (bits_at xs i).width = get_or-map (λ (x : Bits). x.width) xs i no_bits in
-      let r : get_or (input_widths net) i 0 ≡ input_width net i = get_or-map (λ (p : List ℕ × ℕ). p.1) net.inputs i ([], 0) in
-      l ∙ (h.widths i (omega (arith, same, h.count)) ∙ sym r))
+    let same : length (widths_of xs) ≡ length xs = length-map xs (λ (x : Bits). x.width) in
+    let l : get_or (widths_of xs) i 0 ≡ (bits_at xs i).width = get_or-map (λ (x : Bits). x.width) xs i no_bits in
+    let r : get_or (input_widths net) i 0 ≡ input_width net i = get_or-map (λ (p : List ℕ × ℕ). p.1) net.inputs i ([], 0) in
+    l ∙ (h.widths i (omega (arith, same, h.count)) ∙ sym r))
 
 pub values_there : (net : Net) (xs : List Bits) → FitsInputs net xs → AreWords xs → (v : ℕ → Bool) × (input_words net v ≡ xs)
 values_there net xs fits are = (at_place (all_digits xs), values_have_words (input_widths net) xs (widths_are net xs fits) (hold_from xs are))

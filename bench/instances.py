@@ -119,6 +119,19 @@ def pairs(count):
     return count, [[k, k + 1] for k in range(1, count)]
 
 
+def beside(count, birds):
+    """Pigeons with one hole too few, behind variables that all follow from the first one's being false."""
+    clauses = [[1, 2]] + [[-k, k + 1] for k in range(2, count)]
+    far, others = pigeons(birds, birds - 1)
+    shifted = [[l + count if l > 0 else l - count for l in c] for c in others]
+    return count + far, clauses + shifted
+
+
+def wide(count):
+    """One clause of all variables, from the last one down."""
+    return count, [list(range(count, 0, -1))]
+
+
 def main():
     folder = sys.argv[1]
     for bits in (16, 32):
@@ -134,6 +147,9 @@ def main():
         write(folder, f"read{count}", *read(count))
         write(folder, f"falls{count}", *falls(count))
         write(folder, f"rising{count}", *pairs(count), budget=0)
+    for count in (10000, 100000):
+        write(folder, f"beside{count}", *beside(count, 9), budget=4000)
+        write(folder, f"wide{count}", *wide(count))
 
 
 main()

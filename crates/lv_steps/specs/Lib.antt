@@ -1,0 +1,5 @@
+pub mod Step
+pub mod Files
+pub mod Texts
+pub mod Chain
+pub mod Exact

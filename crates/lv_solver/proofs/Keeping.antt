@@ -103,7 +103,8 @@ hint-met set lits log rows k row count rest values sat held (suc j) c use_h e =
     ]
 
 -- a line rests on the units that its hints use
-pub line-rests : (set : SetValue) (lits : List Lit) (log : List Step) (rows : List (List Bool)) (k : ℕ) (s : Step) (row : List Bool) → length rows ≡ k → slice_get log k ≡ Some s → IsDerivation (with_units set lits) log → AreResting set lits log rows →
+pub line-rests : (set : SetValue) (lits : List Lit) (log : List Step) (rows : List (List Bool)) (k : ℕ) (s : Step) (row : List Bool) → length rows ≡ k → slice_get log k ≡ Some s →
+    IsDerivation (with_units set lits) log → AreResting set lits log rows →
     AreUses (length set.clauses) (length lits) rows s.hints row → RestsOn set lits s.clause row
 line-rests set lits log rows k s row count at der rest uses values sat held =
     elim (cases_Bool (is_satisfied values s.clause)) [
@@ -116,7 +117,8 @@ line-rests set lits log rows k s row count at der rest uses values sat held =
 pub rows-push : (m : ℕ) (rows : List (List Bool)) (row : List Bool) → AreRows m rows → length row ≡ m → AreRows m (rows ++ row ∷ [])
 rows-push m rows row are is q r e = elim (get-push rows row r q e) [ inl a ↦ are q r a | inr b ↦ subst (λ z. length z ≡ m) b.0 is ]
 
-pub resting-push : (set : SetValue) (lits : List Lit) (log : List Step) (rows : List (List Bool)) (k : ℕ) (s : Step) (row : List Bool) → length rows ≡ k → slice_get log k ≡ Some s → AreResting set lits log rows → RestsOn set lits s.clause row → AreResting set lits log (rows ++ row ∷ [])
+pub resting-push : (set : SetValue) (lits : List Lit) (log : List Step) (rows : List (List Bool)) (k : ℕ) (s : Step) (row : List Bool) → length rows ≡ k → slice_get log k ≡ Some s →
+    AreResting set lits log rows → RestsOn set lits s.clause row → AreResting set lits log (rows ++ row ∷ [])
 resting-push set lits log rows k s row count at rest is q r x e f =
     elim (get-push rows row r q e) [
       | inl a ↦ rest q r x a f
@@ -136,7 +138,8 @@ some-literal values (x ∷ c) e =
     ]
 
 -- the clause of a line and the negations of its units is satisfied
-pub lifted-true : (set : SetValue) (lits c new d : List Lit) (row : List Bool) → RestsOn set lits c row → IsLifted lits c row new → IsClauseOf new d → (values : ℕ → Bool) → Satisfies values set.clauses → is_satisfied values d ≡ true
+pub lifted-true : (set : SetValue) (lits c new d : List Lit) (row : List Bool) → RestsOn set lits c row → IsLifted lits c row new → IsClauseOf new d → (values : ℕ → Bool) →
+    Satisfies values set.clauses → is_satisfied values d ≡ true
 lifted-true set lits c new d row rests is of values sat =
     elim (cases_Bool (is_satisfied values d)) [
       | inl y ↦ y
@@ -162,7 +165,8 @@ wider-both a b c v w = record {
 }
 
 pub satisfies-push : (values : ℕ → Bool) (cs : List (List Lit)) (d : List Lit) → Satisfies values cs → is_satisfied values d ≡ true → Satisfies values (cs ++ d ∷ [])
-satisfies-push values cs d sat is = list_all-append (is_satisfied values) cs (d ∷ []) ∙ and_from (list_all (is_satisfied values) cs) (list_all (is_satisfied values) (d ∷ [])) sat (and_from (is_satisfied values d) true is refl)
+satisfies-push values cs d sat is =
+    list_all-append (is_satisfied values) cs (d ∷ []) ∙ and_from (list_all (is_satisfied values) cs) (list_all (is_satisfied values) (d ∷ [])) sat (and_from (is_satisfied values d) true is refl)
 
 -- what satisfies more satisfies what was there before
 pub satisfies-old : (values : ℕ → Bool) (old new : SetValue) → IsWider old new → Satisfies values new.clauses → Satisfies values old.clauses
@@ -177,7 +181,8 @@ pub blocked-wider : (lits : List Lit) (old new : SetValue) → IsWider old new �
 blocked-wider lits old new w (k, c, e, part) = (k, c, ap (λ z. slice_get z k) w.clauses ∙ get-older old.clauses w.more c k e, part)
 
 -- a clause that is satisfied where the set is makes it wider
-pub wider-added : (old new : SetValue) (lits : List Lit) (added : Added) → IsAdded old lits added new → ((d : List Lit) → IsClauseOf lits d → (values : ℕ → Bool) → Satisfies values old.clauses → is_satisfied values d ≡ true) → IsWider old new
+pub wider-added : (old new : SetValue) (lits : List Lit) (added : Added) → IsAdded old lits added new →
+    ((d : List Lit) → IsClauseOf lits d → (values : ℕ → Bool) → Satisfies values old.clauses → is_satisfied values d ≡ true) → IsWider old new
 wider-added old new lits Tautology (pair, e) is = subst (λ z. IsWider old z) (sym e) (wider-refl old)
 wider-added old new lits Clause (d, of, e) is =
     let w : IsWider old (record { vars = old.vars; clauses = old.clauses ++ d ∷ [] }) = record {
@@ -268,7 +273,8 @@ pub use-more : (n m : ℕ) (rows : List (List Bool)) (h : ℕ) (old new : List B
 use-more n m rows h old new more is = record { unit = λ a b. more (h - n - 1) (is.unit a b); line = λ q r e at i u. more i (is.line q r e at i u) }
 
 -- as above, where the numbers and lists are told by equations
-pub line-rests-by : (set : SetValue) (lits : List Lit) (log : List Step) (rows rows' : List (List Bool)) (k n : ℕ) (s : Step) (hints : List ℕ) (row : List Bool) → length rows ≡ k → slice_get log k ≡ Some s → IsDerivation (with_units set lits) log → AreResting set lits log rows →
+pub line-rests-by : (set : SetValue) (lits : List Lit) (log : List Step) (rows rows' : List (List Bool)) (k n : ℕ) (s : Step) (hints : List ℕ) (row : List Bool) → length rows ≡ k →
+    slice_get log k ≡ Some s → IsDerivation (with_units set lits) log → AreResting set lits log rows →
     n ≡ length set.clauses → rows' ≡ rows → hints ≡ s.hints → AreUses n (length lits) rows' hints row → RestsOn set lits s.clause row
 line-rests-by set lits log rows rows' k n s hints row count at der rest en er eh uses =
     line-rests set lits log rows k s row count at der rest
@@ -292,7 +298,8 @@ pub record IsLiftedTo (lits c : List Lit) (row : List Bool) (k : ℕ) (new : Lis
 same-at : (lits : List Lit) (k i : ℕ) (x a : Lit) → slice_get lits k ≡ Some x → slice_get lits i ≡ Some a → i ≡ k → x ≡ a
 same-at lits k i x a e f is = let both : Some x ≡ Some a = sym e ∙ (ap (slice_get lits) (sym is) ∙ f) in cc
 
-pub lifted-used : (lits c : List Lit) (row : List Bool) (k : ℕ) (new : List Lit) (x : Lit) → slice_get lits k ≡ Some x → IsLiftedTo lits c row k new → IsLiftedTo lits c row (k + 1) (new ++ negated x ∷ [])
+pub lifted-used : (lits c : List Lit) (row : List Bool) (k : ℕ) (new : List Lit) (x : Lit) → slice_get lits k ≡ Some x → IsLiftedTo lits c row k new →
+    IsLiftedTo lits c row (k + 1) (new ++ negated x ∷ [])
 lifted-used lits c row k new x e is = record {
   own = λ y i. push-old new (negated x) y (is.own y i);
   used = λ i a below at u. elim (cases_eq i k) [
@@ -331,7 +338,8 @@ pub units-more : (set : SetValue) (lits : List Lit) (k : ℕ) (x : Lit) (made ne
 units-more set lits k x made new below is e f =
     let one : Lit → List Lit = λ l. l ∷ [] in
     let more : map one (take (k + 1) lits) ≡ map one (take k lits) ++ (x ∷ []) ∷ [] = ap (map one) (take-item lits k x below is) ∙ map-append one (take k lits) (x ∷ []) in
-    let cs : set.clauses ++ map one (take k lits) ++ (x ∷ []) ∷ [] ≡ set.clauses ++ map one (take (k + 1) lits) = append_assoc set.clauses (map one (take k lits)) ((x ∷ []) ∷ []) ∙ ap (λ z. set.clauses ++ z) (sym more) in
+    let cs : set.clauses ++ map one (take k lits) ++ (x ∷ []) ∷ [] ≡ set.clauses ++ map one (take (k + 1) lits) =
+    append_assoc set.clauses (map one (take k lits)) ((x ∷ []) ∷ []) ∙ ap (λ z. set.clauses ++ z) (sym more) in
     f ∙ (ap (λ z. record { vars = z.vars; clauses = z.clauses ++ (x ∷ []) ∷ [] }) e ∙ ap (λ z. record { vars = set.vars; clauses = z }) cs)
 
 -- one literal more that has another variable

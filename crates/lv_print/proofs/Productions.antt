@@ -14,11 +14,7 @@ use Rattle.lv_ast.specs.declared.item.Aport.{Aport}
 use Rattle.lv_ast.specs.declared.item.Ports.{Ports}
 use Rattle.lv_ast.specs.declared.item.Ports.TheVariants as ports
 use Rattle.lv_ast.specs.declared.item.Watch.{Watch}
-use Rattle.lv_ast.specs.declared.item.Watch.TheVariants as watch
 use Rattle.lv_ast.specs.declared.item.Conn.{Conn}
-use Rattle.lv_grammar.specs.declared.parts.Span.{Span}
-use Rattle.lv_grammar.specs.declared.parts.Span.TheVariants as span
-use Rattle.lv_grammar.specs.declared.parts.Head.{Head}
 use Rattle.lv_viable.specs.Grammar.{Gram, OneOf, left, right, one, leaf, call, act, both, either, perhaps, many, until}
 use Rattle.lv_viable.specs.Spelling.{Leaves, Calls, Spells}
 use Rattle.lv_grammar.specs.Lexemes.{Lexeme}
@@ -26,13 +22,12 @@ use Rattle.lv_grammar.specs.Shapes.{Placed, base}
 use Rattle.lv_grammar.specs.Shapes as shapes
 use Rattle.lv_grammar.specs.Rules as rules
 use Rattle.lv_print.specs.Written.{Written, mark, word, name, commas, joined, others}
-use Rattle.lv_print.specs.Expressions.{parens, path_tokens, expr_tokens, select_tokens}
+use Rattle.lv_print.specs.Expressions.{parens, expr_tokens, select_tokens}
 use Rattle.lv_print.specs.Sources as tokens
 use Rattle.lv_print.specs.Unplaced as bare
 use Rattle.lv_print.specs.UnplacedSources as bare_source
-use Rattle.lv_print.proofs.Papers.{others-none, others-more, joined-none, joined-more, tokens-Bit, tokens-Part, tokens-Up, tokens-Down}
+use Rattle.lv_print.proofs.Papers.{others-none, others-more, joined-none, joined-more}
 use Rattle.lv_print.proofs.SourceRules as written
-use Rattle.lv_print.proofs.UnplacedRules.{unplaced-Bit, unplaced-Part, unplaced-Up, unplaced-Down}
 use Rattle.lv_print.proofs.UnplacedSourceRules as unplaced
 use Rattle.lv_print.proofs.Prints.{plain, on_left_or_right, each_side, Prints, prints_word, prints_mark, prints_act, prints_where, prints_both, prints_either, prints_perhaps, prints_many, prints_until, prints_tail, prints_list, prints_list_as, prints_default, prints_ident}
 use Rattle.lv_print.proofs.Inside.{placed_expr, placed_target, expr_printed, target_printed, span_end, bare_span, bound_tokens, head_tokens, bare_head, inside_watch, inside_ports, select_printed, select_bare, simple_path}

@@ -122,17 +122,17 @@ none_at (t ∷ ts) (suc k) h = none_at ts k (omega arith)
 -- ---- one form for a text
 
 module _ (text : List ℕ) (tokens : List Token) (lexed : AreTokens text tokens) where
-  abbrev all_symbols : List Symbol
+  abbrev pub all_symbols : List Symbol
   all_symbols = symbols text tokens
 
   -- the form of an expression, over these tokens
-  spelled : (x : Expr) (h : IsExpression text x) → forms.text h.form ≡ all_symbols
+  pub spelled : (x : Expr) (h : IsExpression text x) → forms.text h.form ≡ all_symbols
   spelled x h = h.spelled.spells ∙ ap (symbols text) (one_token_list text h.tokens tokens h.spelled.lexed.list lexed.list)
 
   begins : (x : Expr) (h : IsExpression text x) (n : ℕ) → Begins true (take n all_symbols)
   begins x h n = (drop n all_symbols, h.form, h.spelled.expr, spelled x h ∙ sym (take-append-drop n all_symbols))
 
-  same-form : (x : Expr) (h : IsExpression text x) (f : Form) → IsExpr true f → forms.text f ≡ all_symbols → f ≡ h.form
+  pub same-form : (x : Expr) (h : IsExpression text x) (f : Form) → IsExpr true f → forms.text f ≡ all_symbols → f ≡ h.form
   same-form x h f i s = one_form true f h.form i h.spelled.expr (s ∙ sym (spelled x h))
 
   no-end : (n : ℕ) (f : Form) → Reads true all_symbols n f → n < length all_symbols → (x : Expr) → IsExpression text x → ⊥

@@ -4,6 +4,7 @@ pub mod Elements
 pub mod Exact
 pub mod Faults
 pub mod Kept
+pub mod OneContract
 pub mod Ports
 pub mod Reached
 pub mod Spelling

@@ -3,6 +3,7 @@ pub mod Says
 pub mod Expressions
 pub mod Gathered
 pub mod Keys
+pub mod Laws
 pub mod Named
 pub mod Parts
 pub mod Ranges

@@ -10,7 +10,6 @@ use lv_bits::Text;
 use sqlite_items::Items;
 
 /// What a simulation shows, and what it starts from.
-#[derive(Debug, Drop)]
 pub struct SimTable {
     pub cycles: u64,
     pub show: Items<Named>,
@@ -20,9 +19,22 @@ pub struct SimTable {
     ghost counted: { IsTrue (in_count k.Show (length show) && in_count k.State (length state) && in_count k.Input (length input)) },
 }
 
+impl Drop for SimTable {
+    fn drop(self) {
+        let SimTable {
+            cycles: _,
+            show,
+            state,
+            input,
+        } = self;
+        drop(show);
+        drop(state);
+        drop(input);
+    }
+}
+
 /// A contract file, with the ranges of its keys. The fields are named for the keys; `registers`, `equal`, `guarded`, `each` and
 /// `aligned` are the keys `registers`, `equal`, `when`, `each` and `aligned` of `candidates`.
-#[derive(Debug, Drop)]
 pub struct Contract {
     pub format: u64,
     pub files: Items<Text>,
@@ -51,4 +63,43 @@ pub struct Contract {
     ghost observed: { IsTrue (in_count k.Attacker (length attacker) && in_count k.Assume (length assume)) },
     ghost started: { IsTrue (in_count k.Equal (length initial_equal) && in_count k.Each (length initial_each)) },
     ghost listed: { IsTrue (in_count k.Equal (length equal) && in_count k.When (length guarded) && in_count k.Each (length each)) },
+}
+
+impl Drop for Contract {
+    fn drop(self) {
+        let Contract {
+            format: _,
+            files,
+            top,
+            clock,
+            lookahead: _,
+            budget: _,
+            certificate,
+            cycles: _,
+            ports,
+            attacker,
+            assume,
+            initial_equal,
+            initial_each,
+            registers: _,
+            equal,
+            guarded,
+            each,
+            aligned: _,
+            sim,
+        } = self;
+        drop(files);
+        drop(top);
+        drop(clock);
+        drop(certificate);
+        drop(ports);
+        drop(attacker);
+        drop(assume);
+        drop(initial_equal);
+        drop(initial_each);
+        drop(equal);
+        drop(guarded);
+        drop(each);
+        drop(sim);
+    }
 }

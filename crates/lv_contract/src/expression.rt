@@ -6,6 +6,7 @@ ghost use Rattle.lv_contract.specs.Expressions as spec;
 
 use lv_ast::{Expr, Tokens};
 use lv_exprs::{SyntaxError, read_expr};
+use lv_held::Held;
 use lv_lexer::{LexError, lex};
 use std::alloc::Global;
 
@@ -49,18 +50,22 @@ fn free_place(expr: &Expr) -> Option<u64>
 }
 
 /// The expression that all tokens spell.
-fn whole(alloc: Global, tokens: &Tokens) -> Result<Expr, Unread>
+fn whole(alloc: Global, tokens: &Tokens) -> Result<Held<Expr>, Unread>
     requires { AreTokens tokens.now.text tokens.now.list }
     ensures { MatchResult result (IsExpression tokens.now.text) (IsUnreadAt tokens.now.text) }
 {
     match read_expr(alloc, tokens, 0, true) {
         Ok((expr, end)) => {
             if end < tokens.list.len() {
+                drop(expr);
                 return Err(Unread::At(place_of(tokens, end)));
             }
             match free_place(&expr) {
-                Some(place) => Err(Unread::At(place)),
-                None => Ok(expr),
+                Some(place) => {
+                    drop(expr);
+                    Err(Unread::At(place))
+                }
+                None => Ok(Held::new(expr)),
             }
         }
         Err(SyntaxError::Syntax(number)) => Err(Unread::At(place_of(tokens, number))),
@@ -70,7 +75,7 @@ fn whole(alloc: Global, tokens: &Tokens) -> Result<Expr, Unread>
 }
 
 /// The expression that a text spells.
-pub(crate) fn read_expression(alloc: Global, text: &[u8]) -> Result<Expr, Unread>
+pub(crate) fn read_expression(alloc: Global, text: &[u8]) -> Result<Held<Expr>, Unread>
     ensures { MatchResult result (IsExpression text.now) (IsUnreadAt text.now) }
 {
     match lex(alloc, text) {

@@ -25,7 +25,7 @@ use std::alloc::Global;
 use toml::Table;
 
 /// What is observed, and which inputs are allowed.
-#[derive(Debug, Drop)]
+#[derive(Drop)]
 pub(crate) struct Observed {
     pub(crate) ports: Items<PortText>,
     pub(crate) attacker: Items<Named>,
@@ -33,7 +33,7 @@ pub(crate) struct Observed {
 }
 
 /// What the tables inside say.
-#[derive(Debug, Drop)]
+#[derive(Drop)]
 pub(crate) struct Inside {
     pub(crate) initial: InitialLists,
     pub(crate) candidates: CandidateLists,
@@ -41,7 +41,7 @@ pub(crate) struct Inside {
 }
 
 /// The files and names.
-#[derive(Debug, Drop)]
+#[derive(Drop)]
 pub(crate) struct Names {
     pub(crate) files: Items<Text>,
     pub(crate) top: Text,
@@ -50,7 +50,7 @@ pub(crate) struct Names {
 }
 
 /// All that stands there beside numbers.
-#[derive(Debug, Drop)]
+#[derive(Drop)]
 pub(crate) struct Parts {
     pub(crate) names: Names,
     pub(crate) observed: Observed,

@@ -21,7 +21,7 @@ use std::alloc::Global;
 use toml::{Table, Value};
 
 /// The table `initial`.
-#[derive(Debug, Drop)]
+#[derive(Drop)]
 pub(crate) struct InitialLists {
     pub(crate) equal: Items<Named>,
     pub(crate) each: Items<Named>,
@@ -50,7 +50,7 @@ pub(crate) fn initial(alloc: Global, table: &Table) -> Result<InitialLists, Cont
 }
 
 /// The table `candidates`.
-#[derive(Debug, Drop)]
+#[derive(Drop)]
 pub(crate) struct CandidateLists {
     pub(crate) registers: bool,
     pub(crate) equal: Items<Named>,

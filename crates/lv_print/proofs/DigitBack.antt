@@ -70,7 +70,8 @@ last : (base k n : ℕ) → digits base (suc k) n ≡ before base k n ++ (glyph 
 last base k n = (let e : suc k - 1 ≡ k = omega arith in digits-more base (suc k) n (omega arith) ∙ ap (λ j. before base j n ++ (glyph (n % base) ∷ [])) e)
 
 more-than-one : (base k n : ℕ) → base ≤ n → n < base ^ suc k → 1 ≤ k
-more-than-one base zero n l h = (let p : base ^ suc zero ≡ base ^ zero * base = pow-suc base zero in let q : base ^ zero ≡ 1 = pow-zero base in let r : base ^ zero * base ≡ 1 * base = ap (λ z. z * base) q in absurd (omega (arith, l, h, p, r)))
+more-than-one base zero n l h = (let p : base ^ suc zero ≡ base ^ zero * base = pow-suc base zero in let q : base ^ zero ≡ 1 = pow-zero base in
+    let r : base ^ zero * base ≡ 1 * base = ap (λ z. z * base) q in absurd (omega (arith, l, h, p, r)))
 more-than-one base (suc k) n l h = omega arith
 
 all-below : (f : ℕ → Bool) (n : ℕ) → ((d : ℕ) → d < n → f d ≡ true) → check_below f n ≡ true
@@ -121,7 +122,8 @@ pub digits_all : (p : ℕ → Bool) (base k n : ℕ) → 2 ≤ base → check_be
 digits_all p base zero n low h = ap (list_all p) (digits-none base 0 n refl)
 digits_all p base (suc k) n low h =
     let r : n % base < base = mod-lt n {m = base} (omega (arith, low)) in
-    let inner : list_all p (before base k n) ≡ true = elim (nat_lt n base) as (λ b. list_all p (if b then [] else digits base k (n / base)) ≡ true) [ true ↦ refl | false ↦ digits_all p base k (n / base) low h ] in
+    let inner : list_all p (before base k n) ≡ true = elim (nat_lt n base) as (λ b. list_all p (if b then [] else digits base k (n / base)) ≡ true) [ true ↦ refl | false ↦ digits_all p base
+        k (n / base) low h ] in
     ap (list_all p) (last base k n) ∙ list_all-append p (before base k n) (glyph (n % base) ∷ []) ∙ ap (λ z. z && (p (glyph (n % base)) && true)) inner ∙
     ap (λ z. z && true) (checked (λ d. p (glyph d)) base (n % base) h r)
 

@@ -94,7 +94,8 @@ level-high g.Percent = omega arith
 level-high _ = omega arith
 
 module _ (p : Bool) where
-  un : (op : Op) (s : Sign) → mark_symbol (op_bytes op) ≡ t.Sign s → leads s ≡ true → ((x : Expr) → unary s x ≡ e.Un op x) → kind_of (op_bytes op) ≡ Some kinds.Mark → (x : Expr) → TreeBack p x → TreeBack p (e.Un op x)
+  un : (op : Op) (s : Sign) → mark_symbol (op_bytes op) ≡ t.Sign s → leads s ≡ true → ((x : Expr) → unary s x ≡ e.Un op x) → kind_of (op_bytes op) ≡ Some kinds.Mark → (x : Expr) →
+      TreeBack p x → TreeBack p (e.Un op x)
   un op s f l u k x h = unary_back p op s f l u (whole_mark (op_bytes op) k) x h
 
   prefix-back : (s : Sign) → leads s ≡ true → (x : Expr) → TreeBack p x → TreeBack p (unary s x)
@@ -112,7 +113,8 @@ module _ (p : Bool) where
   prefix-back g.CaretTilde l x h = un o.LogNot g.Bang refl refl (λ y. refl) refl _ (un o.RedXor g.Caret refl refl (λ y. refl) refl x h)
   prefix-back _ l x h = absurd (true≢false (sym l))
 
-  bin : (op : Op) (s : Sign) → mark_symbol (op_bytes op) ≡ t.Sign s → 2 ≤ level s → kind_of (op_bytes op) ≡ Some kinds.Mark → ((a b : Expr) → infix_tree s a b ≡ e.Bin op a b) → (x y : Expr) → TreeBack p x → TreeBack p y → TreeBack p (e.Bin op x y)
+  bin : (op : Op) (s : Sign) → mark_symbol (op_bytes op) ≡ t.Sign s → 2 ≤ level s → kind_of (op_bytes op) ≡ Some kinds.Mark → ((a b : Expr) → infix_tree s a b ≡ e.Bin op a b) →
+      (x y : Expr) → TreeBack p x → TreeBack p y → TreeBack p (e.Bin op x y)
   bin op s f low k built x y h i = infix_back p (op_bytes op) s (e.Bin op) f low (level-high s) (whole_mark (op_bytes op) k) (tokens-Bin op) built (unplaced-Bin op) (λ a b. refl) x y h i
 
   infix-back : (s : Sign) → 2 ≤ level s → (x y : Expr) → TreeBack p x → TreeBack p y → TreeBack p (infix_tree s x y)
@@ -234,7 +236,8 @@ module _ (old : List ℕ) (p : Bool) where
         record {
           form = sized k c;
           spells =
-              spells_cons bytes r.token ts r.rest (t.Number k) (t.Based c ∷ []) r.cut (at_written bytes r.token (number_token n.value) (t.Number k) (ap t.Number (number_back n.value r.token.start m)) r.at)
+              spells_cons bytes r.token ts r.rest (t.Number k) (t.Based c ∷ []) r.cut (at_written bytes r.token (number_token n.value) (t.Number k)
+                  (ap t.Number (number_back n.value r.token.start m)) r.at)
               (spells_cons bytes q.token r.rest q.rest (t.Based c) [] q.cut (at_written bytes q.token (based_token (sized_literal n b)) (t.Based c) refl q.at) (ap (symbols bytes) q.are));
           valid = λ f. free ∙ f;
           free = free;
@@ -375,7 +378,8 @@ module _ (old : List ℕ) (p : Bool) where
 
   -- the tokens of a path that goes on
   steps-more : (ps : List PathStep) (q : PathStep) (n : List ℕ) (place : ℕ) (i : List Written) → index_tokens q.index ≡ i →
-      path_tokens (record { steps = ps ++ (q ∷ []); name = n; place = place }) ++ joined [] ≡ ((path_tokens (record { steps = ps; name = q.name; place = place })) ++ i) ++ (mark (codes ".") ∷ w.name n ∷ [])
+      path_tokens (record { steps = ps ++ (q ∷ []); name = n; place = place }) ++ joined [] ≡ ((path_tokens (record { steps = ps; name = q.name;
+          place = place })) ++ i) ++ (mark (codes ".") ∷ w.name n ∷ [])
   unfolding path_tokens
   steps-more ps q n place i h =
       let j : List Written = joined (map step_tokens ps) in
@@ -511,7 +515,8 @@ module _ (old : List ℕ) (p : Bool) where
               selects =
                   map-snoc unplaced.select (made bytes q.form).selects new ∙ ap (λ z. z ++ (unplaced.select new ∷ [])) q.selects ∙
                   ap (λ z. map unplaced.select (made old x).selects ++ (z ∷ []))
-                  (span-unplaced v (tree bytes r.form) (tree bytes u.form) ∙ ap (λ z. part_select v z (unplaced.expr (tree bytes u.form))) r.same ∙ ap (part_select v (unplaced.expr (tree old i))) u.same ∙
+                  (span-unplaced v (tree bytes r.form) (tree bytes u.form) ∙ ap (λ z. part_select v z (unplaced.expr (tree bytes u.form))) r.same ∙
+                      ap (part_select v (unplaced.expr (tree old i))) u.same ∙
                   sym (span-unplaced v (tree old i) (tree old j))) ∙
                   sym (map-snoc unplaced.select (made old x).selects sel);
               is_path = λ f. absurd (true≢false (sym f));
@@ -586,7 +591,8 @@ module _ (old : List ℕ) (p : Bool) where
       let lx : level s ≤ rank x = v.2 in
       let ly : level s + 1 ≤ rank y = v.3 in
       let high : level s ≤ 11 = level-high s in
-      of-tree (binary s x y) (omega (arith, l)) (λ r. omega (arith, r, high)) (infix-back p s l (tree old x) (tree old y) ((back x v.0 c.0).as_tree (omega (arith, l, lx))) ((back y v.1 c.1.1).as_tree (omega (arith, ly))))
+      of-tree (binary s x y) (omega (arith, l)) (λ r. omega (arith, r, high)) (infix-back p s l (tree old x) (tree old y) ((back x v.0 c.0).as_tree (omega (arith, l, lx)))
+          ((back y v.1 c.1.1).as_tree (omega (arith, ly))))
   back (choice k x y) v h =
       let c = good-cut old (text k) (t.Question ∷ (text x ++ (t.Divider d.Colon ∷ text y))) h in
       let i = good-cut old (text x) (t.Divider d.Colon ∷ text y) c.1.1 in

@@ -64,7 +64,8 @@ exprs_read_back p x s small =
     let q : ExprAgain p (text_of (expr_tokens x)) (plain_at 0 (expr_tokens x)) x = b.again (text_of (expr_tokens x)) (plain_at 0 (expr_tokens x)) (are (expr_tokens x) small) in
     record { tokens = plain_at 0 (expr_tokens x); folded = folded (expr_tokens x) b.whole; form = q.form; valid = q.valid; spells = sym q.spells; same = q.same }
 
-pub printed_expr : (x : Expr) (r : Result (List ℕ) NoMemory) (p q : Paper) → p ≡ empty → q ≡ with_tokens p (expr_tokens x) → IfOk r (λ t. t ≡ q.bytes ++ end_gap q.last) → IfOk r (λ t. length t < 2 ^ 64) →
+pub printed_expr : (x : Expr) (r : Result (List ℕ) NoMemory) (p q : Paper) → p ≡ empty → q ≡ with_tokens p (expr_tokens x) → IfOk r (λ t. t ≡ q.bytes ++ end_gap q.last) →
+    IfOk r (λ t. length t < 2 ^ 64) →
     IfOk r (λ t. (b : Bool) → IsSpelledExpr b x → ReadsBackExpr b x t)
 printed_expr x (Ok t) p q e f g h = λ b s.
     let i : t ≡ text_of (expr_tokens x) = finished (expr_tokens x) p q t e f g in

@@ -2,26 +2,24 @@
 use Rattle.std.proofs.Common.{eq-eqb, ◌≡◌, ℕ, ◌+◌, ◌-◌, ◌*◌, ◌/◌, ◌%◌, ◌^◌, ◌<◌, ◌≤◌, nat_lt, Bool, true, false, not, ◌&&◌, ◌||◌, if◌then◌else◌, ◌==◌, List, [], ◌∷◌, length, bytes_eq, Option, Some, None, refl, sym, ap, ◌∙◌, subst, arith, true≢false}
 use Rattle.std.specs.Prelude.{slice_range, codes}
 use Rattle.std.specs.List.{list_all}
-use Rattle.std.proofs.lemmas.Bool.{eqb-true, ltb-true, ltb-false, lt-ltb, leb-true}
+use Rattle.std.proofs.lemmas.Bool.{eqb-true, ltb-true, ltb-false, leb-true}
 use Rattle.std.proofs.lemmas.Option.{none-some}
 use Rattle.std.proofs.lemmas.Nat.Bits.{bit_at-zero, bit_at_cat_low, bit_at_cat_high}
 use Rattle.std.proofs.Math.Pow.{pow_pos}
 use Rattle.std.proofs.Math.Nat.{mod-lt}
-use Rattle.lv_ast.specs.Names.{is_between, is_letter, is_inner, is_keyword, is_simple}
+use Rattle.lv_ast.specs.Names.{is_letter, is_inner, is_keyword, is_simple}
 use Rattle.lv_ast.specs.Tokens.{token_bytes, is_digit, is_number_byte, is_free, digit_value, base_of, digits_number, value_digit, free_digit, based_base, based_digits, is_base_digit, is_base_byte, is_word, without_sign, without_blanks, is_digits, is_base_and_digits, is_mark, is_line_end, is_printed, kind_if, after_backslash, kind_of, fits}
 use Rattle.lv_ast.specs.Tokens as tok
 use Rattle.lv_ast.specs.TokenLists.{kind_number, is_kind, is_token, are_tokens}
 use Rattle.lv_ast.specs.declared.tokens.Kind.{Kind}
 use Rattle.lv_ast.specs.declared.tokens.Kind.TheVariants as k
 use Rattle.lv_ast.specs.declared.tokens.Token.{Token}
-use Rattle.lv_exprs.specs.declared.symbol.Sign.TheVariants as g
-use Rattle.lv_exprs.specs.declared.symbol.Divider.TheVariants as d
 use Rattle.lv_exprs.specs.declared.symbol.Symbol.{Symbol}
 use Rattle.lv_exprs.specs.declared.symbol.Symbol.TheVariants as t
 use Rattle.lv_exprs.specs.Literals.{leads_free, above, based_of}
 use Rattle.lv_exprs.specs.Symbols.{one_mark, one_sign, two_marks, two_signs, three_signs, mark_symbol, system_symbol, behind, kind_symbol, symbols}
 use Rattle.lv_print.specs.Written.{Written, written}
-use Rattle.lv_print.proofs.DigitBack.{both, check_below, checked}
+use Rattle.lv_print.proofs.DigitBack.{both}
 use Rattle.lv_print.proofs.FreeBack.{Apart, apart_cut}
 use Rattle.lv_print.proofs.Spelled.{IsWritable, slice_behind, slice_long}
 use Rattle.lv_print.proofs.ExprBack.{AreGivenBits, Good, AllGood}

@@ -1,38 +1,25 @@
 -- What is written of trees that have tokens of their own only inside of others, and these trees without places.
-use Rattle.std.proofs.Common.{◌≡◌, ℕ, Bool, true, false, ◌&&◌, if◌then◌else◌, List, [], ◌∷◌, ◌++◌, map, Option, Some, None, refl, sym, ap, ◌∙◌, subst, append_assoc, append-nil, true≢false}
-use Rattle.std.specs.Prelude.{option_map, is_some, codes}
-use Rattle.lv_ast.specs.Tokens.{kind_of, is_word, is_mark, is_digit}
-use Rattle.lv_ast.specs.declared.tokens.Kind.TheVariants as k
+use Rattle.std.proofs.Common.{◌≡◌, ℕ, List, [], ◌∷◌, ◌++◌, map, refl, ap, ◌∙◌, append_assoc}
+use Rattle.std.specs.Prelude.{codes}
 use Rattle.lv_ast.specs.declared.expr.Expr.{Expr}
 use Rattle.lv_ast.specs.declared.stmt.Ident.{Ident}
 use Rattle.lv_ast.specs.declared.stmt.Target.{Target}
-use Rattle.lv_ast.specs.declared.stmt.Stmt.{Stmt}
-use Rattle.lv_ast.specs.declared.item.Params.{Params}
-use Rattle.lv_ast.specs.declared.item.PortWord.{PortWord}
-use Rattle.lv_ast.specs.declared.item.Aport.{Aport}
 use Rattle.lv_ast.specs.declared.item.Ports.{Ports}
 use Rattle.lv_ast.specs.declared.item.Ports.TheVariants as ports
 use Rattle.lv_ast.specs.declared.item.Watch.{Watch}
 use Rattle.lv_ast.specs.declared.item.Watch.TheVariants as watch
-use Rattle.lv_ast.specs.declared.item.Conn.{Conn}
 use Rattle.lv_grammar.specs.declared.parts.Span.{Span}
 use Rattle.lv_grammar.specs.declared.parts.Span.TheVariants as span
 use Rattle.lv_grammar.specs.declared.parts.Head.{Head}
-use Rattle.lv_viable.specs.Grammar.{Gram, OneOf, left, right, one, leaf, call, act, both, either, perhaps, many, until}
-use Rattle.lv_viable.specs.Spelling.{Leaves, Calls, Spells}
-use Rattle.lv_grammar.specs.Lexemes.{Lexeme}
-use Rattle.lv_grammar.specs.Shapes.{Placed, base}
-use Rattle.lv_grammar.specs.Shapes as shapes
+use Rattle.lv_grammar.specs.Shapes.{Placed}
 use Rattle.lv_grammar.specs.Rules as rules
-use Rattle.lv_print.specs.Written.{Written, mark, word, name, commas, joined, others}
-use Rattle.lv_print.specs.Expressions.{parens, path_tokens, expr_tokens, select_tokens}
+use Rattle.lv_print.specs.Written.{Written, mark, word, name, commas, joined}
+use Rattle.lv_print.specs.Expressions.{path_tokens, expr_tokens, select_tokens}
 use Rattle.lv_print.specs.Sources as tokens
 use Rattle.lv_print.specs.Unplaced as bare
 use Rattle.lv_print.specs.UnplacedSources as bare_source
-use Rattle.lv_print.proofs.Papers.{others-none, others-more, joined-none, joined-more, tokens-Bit, tokens-Part, tokens-Up, tokens-Down}
-use Rattle.lv_print.proofs.SourceRules as written
+use Rattle.lv_print.proofs.Papers.{tokens-Bit, tokens-Part, tokens-Up, tokens-Down}
 use Rattle.lv_print.proofs.UnplacedRules.{unplaced-Bit, unplaced-Part, unplaced-Up, unplaced-Down}
-use Rattle.lv_print.proofs.UnplacedSourceRules as unplaced
 
 -- what isn't placed
 abbrev pub placed_expr : Placed Expr → Placed Expr

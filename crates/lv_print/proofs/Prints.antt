@@ -353,7 +353,8 @@ module _ (old : List ℕ) (L : Leaves base) (C : Calls base) (L' : List ℕ → 
       record {
         whole = subst AreWhole (sym same) q.whole;
         empty = q.empty ∙ ap is_nil (sym same);
-        again = λ bytes ts a. (let m : Again (call r) u z.0 x bytes ts = q.again bytes ts (subst (Are bytes ts) same a) in record { tree = (m.tree, None); spelled = (z.0, m.spelled, z.2); same = λ l. (m.same l, None) });
+        again = λ bytes ts a. (let m : Again (call r) u z.0 x bytes ts = q.again bytes ts (subst (Are bytes ts) same a) in record { tree = (m.tree, None); spelled = (z.0, m.spelled, z.2);
+            same = λ l. (m.same l, None) });
       }
   prints-tail r s h c d u v e i j us o x (Some y) good z =
       let split = good-cut old z.0 (z.1 ∷ z.2) (subst (AreGood old) z.3 good) in
@@ -406,7 +407,8 @@ module _ (old : List ℕ) (L : Leaves base) (C : Calls base) (L' : List ℕ → 
       (prints_both _ _ _ _ _ _ i (prints_many _ _ _ (prints_both _ _ _ _ _ _ (prints_mark (codes ",") comma-kind) i)))
 
   -- the same by a printer that is this one for lists that are not empty
-  pub prints_list_as : {A : Type 0} (g : Gram base A) (c : A → List Written) (u : A → A) (d : List A → List Written) → ((x : A) (xs : List A) → d (x ∷ xs) ≡ commas (map c (x ∷ xs))) → Prints g c u → Prints (list g) d (map u)
+  pub prints_list_as : {A : Type 0} (g : Gram base A) (c : A → List Written) (u : A → A) (d : List A → List Written) → ((x : A) (xs : List A) → d (x ∷ xs) ≡ commas (map c (x ∷ xs))) →
+      Prints g c u → Prints (list g) d (map u)
   prints_list_as g c u d e i =
       prints_act first_and_others (both g (many (both comma g))) _ _ _ _ (λ p. e p.0 (map behind p.1) ∙ ap (λ z. c p.0 ++ z) (commas-each c p.1)) (λ p. ap (λ z. u p.0 ∷ z) (map-behind u p.1))
       (prints_both _ _ _ _ _ _ i (prints_many _ _ _ (prints_both _ _ _ _ _ _ (prints_mark (codes ",") comma-kind) i)))
@@ -420,7 +422,8 @@ module _ (old : List ℕ) (L : Leaves base) (C : Calls base) (L' : List ℕ → 
   closed-colon vs q None h = h.1
   closed-colon vs q (Some t) h = h.2
 
-  pub prints_default : kind_of (codes "default") ≡ Some k.Word → kind_of (codes ":") ≡ Some k.Mark → Prints default_words (λ p. w.word (codes "default") ∷ w.mark (codes ":") ∷ []) (λ p. (plain p.0, None))
+  pub prints_default : kind_of (codes "default") ≡ Some k.Word → kind_of (codes ":") ≡ Some k.Mark →
+      Prints default_words (λ p. w.word (codes "default") ∷ w.mark (codes ":") ∷ []) (λ p. (plain p.0, None))
   prints_default kd kc = record {
     prints = λ us o x good s. record {
       whole = (record { ordinary = refl; kind = kd; apostrophe = λ e. absurd (true≢false (sym e)) }, (whole_mark (codes ":") kc, tt));

@@ -14,11 +14,7 @@ use Rattle.lv_ast.specs.declared.item.Aport.{Aport}
 use Rattle.lv_ast.specs.declared.item.Ports.{Ports}
 use Rattle.lv_ast.specs.declared.item.Ports.TheVariants as ports
 use Rattle.lv_ast.specs.declared.item.Watch.{Watch}
-use Rattle.lv_ast.specs.declared.item.Watch.TheVariants as watch
 use Rattle.lv_ast.specs.declared.item.Conn.{Conn}
-use Rattle.lv_grammar.specs.declared.parts.Span.{Span}
-use Rattle.lv_grammar.specs.declared.parts.Span.TheVariants as span
-use Rattle.lv_grammar.specs.declared.parts.Head.{Head}
 use Rattle.lv_viable.specs.Grammar.{Gram, OneOf, left, right, one, leaf, call, act, both, either, perhaps, many, until}
 use Rattle.lv_viable.specs.Spelling.{Leaves, Calls, Spells}
 use Rattle.lv_grammar.specs.Lexemes.{Lexeme}
@@ -26,13 +22,12 @@ use Rattle.lv_grammar.specs.Shapes.{Placed, base}
 use Rattle.lv_grammar.specs.Shapes as shapes
 use Rattle.lv_grammar.specs.Rules as rules
 use Rattle.lv_print.specs.Written.{Written, mark, word, name, commas, joined, others}
-use Rattle.lv_print.specs.Expressions.{parens, path_tokens, expr_tokens, select_tokens}
+use Rattle.lv_print.specs.Expressions.{parens, expr_tokens, select_tokens}
 use Rattle.lv_print.specs.Sources as tokens
 use Rattle.lv_print.specs.Unplaced as bare
 use Rattle.lv_print.specs.UnplacedSources as bare_source
-use Rattle.lv_print.proofs.Papers.{others-none, others-more, joined-none, joined-more, tokens-Bit, tokens-Part, tokens-Up, tokens-Down}
+use Rattle.lv_print.proofs.Papers.{others-none, others-more, joined-none, joined-more}
 use Rattle.lv_print.proofs.SourceRules as written
-use Rattle.lv_print.proofs.UnplacedRules.{unplaced-Bit, unplaced-Part, unplaced-Up, unplaced-Down}
 use Rattle.lv_print.proofs.UnplacedSourceRules as unplaced
 use Rattle.lv_print.proofs.Prints.{plain, on_left_or_right, each_side, Prints, prints_word, prints_mark, prints_act, prints_where, prints_both, prints_either, prints_perhaps, prints_many, prints_until, prints_tail, prints_list, prints_list_as, prints_default, prints_ident}
 use Rattle.lv_print.proofs.Inside.{placed_expr, placed_target, expr_printed, target_printed, span_end, bare_span, bound_tokens, head_tokens, bare_head, inside_watch, inside_ports, select_printed, select_bare, simple_path}
@@ -56,10 +51,12 @@ module _ (old : List ℕ) (L : Leaves base) (C : Calls base) (L' : List ℕ → 
   sign : (m : List ℕ) → kind_of m ≡ Some k.Mark → P (one (shapes.mark m)) (λ t. mark m ∷ []) plain
   sign m h = prints_mark old L C L' C' m h
 
-  pair : {A B : Type 0} {g : Gram base A} {h : Gram base B} {c : A → List Written} {d : B → List Written} {u : A → A} {v : B → B} → P g c u → P h d v → P (both g h) (λ p. c p.0 ++ d p.1) (λ p. (u p.0, v p.1))
+  pair : {A B : Type 0} {g : Gram base A} {h : Gram base B} {c : A → List Written} {d : B → List Written} {u : A → A} {v : B → B} → P g c u → P h d v →
+      P (both g h) (λ p. c p.0 ++ d p.1) (λ p. (u p.0, v p.1))
   pair {A} {B} {g} {h} {c} {d} {u} {v} i j = prints_both old L C L' C' g h c d u v i j
 
-  acted : {A B : Type 0} (f : A → B) {g : Gram base A} {c : A → List Written} {u : A → A} (d : B → List Written) (v : B → B) → ((x : A) → d (f x) ≡ c x) → ((x : A) → v (f x) ≡ f (u x)) → P g c u → P (act f g) d v
+  acted : {A B : Type 0} (f : A → B) {g : Gram base A} {c : A → List Written} {u : A → A} (d : B → List Written) (v : B → B) → ((x : A) → d (f x) ≡ c x) → ((x : A) → v (f x) ≡ f (u x)) →
+      P g c u → P (act f g) d v
   acted f {g} {c} {u} d v e n h = prints_act old L C L' C' f g c u d v e n h
 
   alike-c : {A : Type 0} (c : A → List Written) (x : OneOf A A) → c (rules.one_of rules.same_tree rules.same_tree x) ≡ on_left_or_right c c x
@@ -79,7 +76,8 @@ module _ (old : List ℕ) (L : Leaves base) (C : Calls base) (L' : List ℕ → 
   any : {A : Type 0} {g : Gram base A} {c : A → List Written} {u : A → A} → P g c u → P (many g) (λ xs. joined (map c xs)) (map u)
   any {A} {g} {c} {u} i = prints_many old L C L' C' g c u i
 
-  upto : {A B : Type 0} {g : Gram base A} {h : Gram base B} {c : A → List Written} {d : B → List Written} {u : A → A} {v : B → B} → P g c u → P h d v → P (until g h) (λ p. joined (map c p.0) ++ d p.1) (λ p. (map u p.0, v p.1))
+  upto : {A B : Type 0} {g : Gram base A} {h : Gram base B} {c : A → List Written} {d : B → List Written} {u : A → A} {v : B → B} → P g c u → P h d v →
+      P (until g h) (λ p. joined (map c p.0) ++ d p.1) (λ p. (map u p.0, v p.1))
   upto {A} {B} {g} {h} {c} {d} {u} {v} i j = prints_until old L C L' C' g h c d u v i j
 
   listed : {A : Type 0} {g : Gram base A} {c : A → List Written} {u : A → A} → P g c u → P (rules.list g) (λ xs. commas (map c xs)) (map u)
@@ -154,13 +152,15 @@ module _ (old : List ℕ) (L : Leaves base) (C : Calls base) (L' : List ℕ → 
     unfolding kind_of is_mark is_digit
     select-end =
         acted rules.span_by span_end bare_span span-printed span-bare
-        (prints_either old L C L' C' _ _ _ _ _ _ ends-bracket (prints_either old L C L' C' _ _ _ _ _ _ (bound (codes ":") refl) (prints_either old L C L' C' _ _ _ _ _ _ (bound (codes "+:") refl) (bound (codes "-:") refl))))
+        (prints_either old L C L' C' _ _ _ _ _ _ ends-bracket (prints_either old L C L' C' _ _ _ _ _ _ (bound (codes ":") refl)
+            (prints_either old L C L' C' _ _ _ _ _ _ (bound (codes "+:") refl) (bound (codes "-:") refl))))
 
     selected : P rules.selected select_tokens bare.select
     selected = acted rules.select_of select_tokens bare.select (λ p. select_printed p.1.0 p.1.1) (λ p. select_bare p.1.0 p.1.1) (pair begins-bracket (pair value select-end))
 
     named : P rules.named (λ p. tokens.named_tokens p.0 p.1) (λ p. (bare.path p.0, map bare.select p.1))
-    named = acted rules.named_of (λ p. tokens.named_tokens p.0 p.1) (λ p. (bare.path p.0, map bare.select p.1)) (λ p. ap (λ z. z ++ joined (map select_tokens p.1)) (simple_path p.0)) (λ p. refl) (pair ident (any selected))
+    named = acted rules.named_of (λ p. tokens.named_tokens p.0 p.1) (λ p. (bare.path p.0, map bare.select p.1)) (λ p. ap (λ z. z ++ joined (map select_tokens p.1)) (simple_path p.0))
+        (λ p. refl) (pair ident (any selected))
 
     target-tree : P rules.target_tree tokens.target_tokens bare_source.target
     target-tree = acted rules.tree tokens.target_tokens bare_source.target (λ p. refl) (λ p. refl) parts.target
@@ -176,14 +176,16 @@ module _ (old : List ℕ) (L : Leaves base) (C : Calls base) (L' : List ℕ → 
     pub target_rule : P rules.target_rule target_printed placed_target
     target_rule =
         or
-        (acted rules.joined_target target_printed placed_target (λ p. written.target-Cat p.1.0) (λ p i. record { tree = unplaced.target-Cat p.1.0 i; place = 0 }) (pair brace-pair (pair (listed target-tree) brace-end)))
+        (acted rules.joined_target target_printed placed_target (λ p. written.target-Cat p.1.0) (λ p i. record { tree = unplaced.target-Cat p.1.0 i;
+            place = 0 }) (pair brace-pair (pair (listed target-tree) brace-end)))
         (acted rules.named_target target_printed placed_target (λ p. written.target-Name p.0 p.1) (λ p i. record { tree = unplaced.target-Name p.0 p.1 i; place = 0 }) named)
 
     -- ---- declarations
 
     range : P rules.range tokens.range_tokens bare_source.range
     range =
-        acted rules.range_of tokens.range_tokens bare_source.range (λ p. ap (λ z. mark (codes "[") ∷ z) (append_assoc (expr_tokens p.1.0) (mark (codes ":") ∷ expr_tokens p.1.1.1.0) (mark (codes "]") ∷ []))) (λ p. refl)
+        acted rules.range_of tokens.range_tokens bare_source.range (λ p. ap (λ z. mark (codes "[") ∷ z) (append_assoc (expr_tokens p.1.0) (mark (codes ":") ∷ expr_tokens p.1.1.1.0)
+            (mark (codes "]") ∷ []))) (λ p. refl)
         (pair begins-bracket (pair value (pair colon (pair value ends-bracket))))
 
     signed-printed : (x : Option Lexeme) → tokens.signed_tokens (is_some x) ≡ tokens.perhaps (λ t. word (codes "signed") ∷ []) x
@@ -219,7 +221,8 @@ module _ (old : List ℕ) (L : Leaves base) (C : Calls base) (L' : List ℕ → 
     input-bare (t, Some r) = refl
 
     output-printed : (p : Lexeme × Option (OneOf Lexeme Lexeme)) →
-        direction_tokens (rules.output_of p) ≡ (word (codes "output") ∷ []) ++ tokens.perhaps (on_left_or_right (λ (t : Lexeme). word (codes "wire") ∷ []) (λ (t : Lexeme). word (codes "reg") ∷ [])) p.1
+        direction_tokens (rules.output_of p) ≡ (word (codes "output") ∷ []) ++ tokens.perhaps (on_left_or_right (λ (t : Lexeme). word (codes "wire") ∷ [])
+            (λ (t : Lexeme). word (codes "reg") ∷ [])) p.1
     output-printed (t, None) = refl
     output-printed (t, Some (left r)) = refl
     output-printed (t, Some (right r)) = refl
@@ -252,11 +255,13 @@ module _ (old : List ℕ) (L : Leaves base) (C : Calls base) (L' : List ℕ → 
         (λ p. written.item-Port (rules.aport_of p.0 p.1.0) ∙ append_assoc (port_header_tokens p.0) (commas (map tokens.ident_tokens p.1.0)) (mark (codes ";") ∷ [])) (λ p. refl)
         (pair port-header (pair (listed ident) semicolon))
 
-    net-printed : (p : Ident × Option (Lexeme × Expr)) → tokens.net_tokens (rules.net_name_of p) ≡ tokens.ident_tokens p.0 ++ tokens.perhaps (λ (q : Lexeme × Expr). (mark (codes "=") ∷ []) ++ expr_tokens q.1) p.1
+    net-printed : (p : Ident × Option (Lexeme × Expr)) → tokens.net_tokens (rules.net_name_of p) ≡ tokens.ident_tokens p.0 ++ tokens.perhaps (λ (q : Lexeme × Expr). (mark (codes "=") ∷ [])
+        ++ expr_tokens q.1) p.1
     net-printed (x, None) = refl
     net-printed (x, Some q) = refl
 
-    net-bare : (p : Ident × Option (Lexeme × Expr)) → bare_source.net (rules.net_name_of p) ≡ rules.net_name_of (bare_source.ident p.0, option_map (λ (q : Lexeme × Expr). (plain q.0, bare.expr q.1)) p.1)
+    net-bare : (p : Ident × Option (Lexeme × Expr)) → bare_source.net (rules.net_name_of p) ≡ rules.net_name_of (bare_source.ident p.0, option_map (λ (q : Lexeme × Expr). (plain q.0,
+        bare.expr q.1)) p.1)
     net-bare (x, None) = refl
     net-bare (x, Some q) = refl
 
@@ -277,12 +282,14 @@ module _ (old : List ℕ) (L : Leaves base) (C : Calls base) (L' : List ℕ → 
     index : (b : Bool) (w : List ℕ) → tokens.index_word b ≡ word w → kind_of w ≡ Some k.Word → P (rules.index b w) tokens.item_tokens bare_source.item
     unfolding tokens.item_tokens bare_source.item
     index b w e h =
-        acted (rules.index_item b) tokens.item_tokens bare_source.item (λ p. ap (λ z. z ∷ (commas (map tokens.ident_tokens p.1.0) ++ (mark (codes ";") ∷ []))) e) (λ p. refl) (pair (keyword w h) (pair (listed ident) semicolon))
+        acted (rules.index_item b) tokens.item_tokens bare_source.item (λ p. ap (λ z. z ∷ (commas (map tokens.ident_tokens p.1.0) ++ (mark (codes ";") ∷ []))) e) (λ p. refl)
+            (pair (keyword w h) (pair (listed ident) semicolon))
 
     parameter : (b : Bool) (w : List ℕ) → tokens.params_word b ≡ word w → kind_of w ≡ Some k.Word → P (rules.parameter b w) tokens.item_tokens bare_source.item
     unfolding tokens.item_tokens bare_source.item
     parameter b w e h =
-        acted (rules.params_item b) tokens.item_tokens bare_source.item (λ p. ap (λ z. z ∷ (tokens.params_tokens p.1.0 ++ (mark (codes ";") ∷ []))) e) (λ p. refl) (pair (keyword w h) (pair params semicolon))
+        acted (rules.params_item b) tokens.item_tokens bare_source.item (λ p. ap (λ z. z ∷ (tokens.params_tokens p.1.0 ++ (mark (codes ";") ∷ []))) e) (λ p. refl) (pair (keyword w h)
+            (pair params semicolon))
 
     -- ---- statements
 
@@ -297,17 +304,20 @@ module _ (old : List ℕ) (L : Leaves base) (C : Calls base) (L' : List ℕ → 
 
     loop : P rules.loop tokens.stmt_tokens bare_source.stmt
     loop =
-        acted rules.loop_stmt tokens.stmt_tokens bare_source.stmt (λ p. written.stmt-Loop p.0.index p.0.start p.0.test p.0.again p.0.next p.1) (λ p. unplaced.stmt-Loop p.0.index p.0.start p.0.test p.0.again p.0.next p.1)
+        acted rules.loop_stmt tokens.stmt_tokens bare_source.stmt (λ p. written.stmt-Loop p.0.index p.0.start p.0.test p.0.again p.0.next p.1)
+            (λ p. unplaced.stmt-Loop p.0.index p.0.start p.0.test p.0.again p.0.next p.1)
         (pair loop-head parts.stmt)
 
     empty : P rules.empty tokens.stmt_tokens bare_source.stmt
     empty = acted rules.null_stmt tokens.stmt_tokens bare_source.stmt (λ t. written.stmt-Null) (λ t. unplaced.stmt-Null) semicolon
 
-    label-printed : (x : Option (Lexeme × Ident)) → tokens.perhaps tokens.label_tokens (option_map rules.behind x) ≡ tokens.perhaps (λ (p : Lexeme × Ident). (mark (codes ":") ∷ []) ++ tokens.ident_tokens p.1) x
+    label-printed : (x : Option (Lexeme × Ident)) → tokens.perhaps tokens.label_tokens (option_map rules.behind x) ≡ tokens.perhaps (λ (p : Lexeme × Ident). (mark (codes ":") ∷ []) ++
+        tokens.ident_tokens p.1) x
     label-printed None = refl
     label-printed (Some p) = refl
 
-    label-bare : (x : Option (Lexeme × Ident)) → option_map bare_source.ident (option_map rules.behind x) ≡ option_map rules.behind (option_map (λ (p : Lexeme × Ident). (plain p.0, bare_source.ident p.1)) x)
+    label-bare : (x : Option (Lexeme × Ident)) → option_map bare_source.ident (option_map rules.behind x) ≡ option_map rules.behind (option_map (λ (p : Lexeme × Ident). (plain p.0,
+        bare_source.ident p.1)) x)
     label-bare None = refl
     label-bare (Some p) = refl
 
@@ -316,11 +326,13 @@ module _ (old : List ℕ) (L : Leaves base) (C : Calls base) (L' : List ℕ → 
 
     stmts-to-end : P rules.stmts_to_end (λ ss. joined (map tokens.stmt_tokens ss) ++ (word (codes "end") ∷ [])) (map bare_source.stmt)
     unfolding kind_of is_word
-    stmts-to-end = acted rules.before (λ ss. joined (map tokens.stmt_tokens ss) ++ (word (codes "end") ∷ [])) (map bare_source.stmt) (λ p. refl) (λ p. refl) (upto parts.stmt (keyword (codes "end") refl))
+    stmts-to-end = acted rules.before (λ ss. joined (map tokens.stmt_tokens ss) ++ (word (codes "end") ∷ [])) (map bare_source.stmt) (λ p. refl) (λ p. refl)
+        (upto parts.stmt (keyword (codes "end") refl))
 
     block : P rules.block tokens.stmt_tokens bare_source.stmt
     unfolding kind_of is_word
-    block = acted rules.block_stmt tokens.stmt_tokens bare_source.stmt (λ p. written.stmt-Block p.1.0 p.1.1) (λ p. unplaced.stmt-Block p.1.0 p.1.1) (pair (keyword (codes "begin") refl) (pair block-name stmts-to-end))
+    block = acted rules.block_stmt tokens.stmt_tokens bare_source.stmt (λ p. written.stmt-Block p.1.0 p.1.1) (λ p. unplaced.stmt-Block p.1.0 p.1.1) (pair (keyword (codes "begin") refl)
+        (pair block-name stmts-to-end))
 
     branches : P rules.branches (λ p. tokens.stmt_tokens p.0 ++ tokens.perhaps (λ z. word (codes "else") ∷ tokens.stmt_tokens z) p.1) (λ p. (bare_source.stmt p.0, option_map bare_source.stmt p.1))
     unfolding kind_of is_word
@@ -328,7 +340,8 @@ module _ (old : List ℕ) (L : Leaves base) (C : Calls base) (L' : List ℕ → 
 
     if-printed : (p : Lexeme × (Lexeme × (Expr × (Lexeme × (Stmt × Option Stmt))))) →
         tokens.stmt_tokens (rules.if_stmt p) ≡
-        word (codes "if") ∷ mark (codes "(") ∷ (expr_tokens p.1.1.0 ++ (mark (codes ")") ∷ (tokens.stmt_tokens p.1.1.1.1.0 ++ tokens.perhaps (λ z. word (codes "else") ∷ tokens.stmt_tokens z) p.1.1.1.1.1)))
+        word (codes "if") ∷ mark (codes "(") ∷ (expr_tokens p.1.1.0 ++ (mark (codes ")") ∷ (tokens.stmt_tokens p.1.1.1.1.0 ++ tokens.perhaps (λ z. word (codes "else") ∷ tokens.stmt_tokens
+            z) p.1.1.1.1.1)))
     if-printed (a, (b, (c, (d, (x, None))))) = written.stmt-If c x
     if-printed (a, (b, (c, (d, (x, Some y))))) = written.stmt-If_else c x y
 
@@ -365,13 +378,15 @@ module _ (old : List ℕ) (L : Leaves base) (C : Calls base) (L' : List ℕ → 
     unfolding kind_of is_word
     arms b =
         acted rules.arms_of (λ list. joined (map tokens.arm_tokens list) ++ (word (codes "endcase") ∷ [])) (map bare_source.arm)
-        (λ p. ap (λ z. z ++ (word (codes "endcase") ∷ [])) (joined-more (tokens.arm_tokens p.0) (map tokens.arm_tokens p.1.0)) ∙ append_assoc (tokens.arm_tokens p.0) (joined (map tokens.arm_tokens p.1.0)) (word (codes "endcase") ∷ [])) (λ p. refl)
+        (λ p. ap (λ z. z ++ (word (codes "endcase") ∷ [])) (joined-more (tokens.arm_tokens p.0) (map tokens.arm_tokens p.1.0)) ∙
+            append_assoc (tokens.arm_tokens p.0) (joined (map tokens.arm_tokens p.1.0)) (word (codes "endcase") ∷ [])) (λ p. refl)
         (pair (arm b) (upto (arm b) (keyword (codes "endcase") refl)))
 
     cases : (b : Bool) → tokens.case_word b ≡ word (rules.case_word b) → kind_of (rules.case_word b) ≡ Some k.Word → P (rules.cases b) tokens.stmt_tokens bare_source.stmt
     cases b e h =
         acted (rules.case_stmt b) tokens.stmt_tokens bare_source.stmt
-        (λ p. written.stmt-Case b p.1.1.0 p.1.1.1.1 ∙ ap (λ z. z ∷ mark (codes "(") ∷ (expr_tokens p.1.1.0 ++ (mark (codes ")") ∷ (joined (map tokens.arm_tokens p.1.1.1.1) ++ (word (codes "endcase") ∷ []))))) e)
+        (λ p. written.stmt-Case b p.1.1.0 p.1.1.1.1 ∙ ap (λ z. z ∷ mark (codes "(") ∷ (expr_tokens p.1.1.0 ++ (mark (codes ")") ∷ (joined (map tokens.arm_tokens p.1.1.1.1) ++ (word (codes
+            "endcase") ∷ []))))) e)
         (λ p. unplaced.stmt-Case b p.1.1.0 p.1.1.1.1) (pair (keyword (rules.case_word b) h) (pair opens (pair value (pair closes (arms b)))))
 
     abbrev arrow_tokens : Bool → List Written
@@ -389,7 +404,8 @@ module _ (old : List ℕ) (L : Leaves base) (C : Calls base) (L' : List ℕ → 
     unfolding kind_of is_mark is_digit
     arrow = acted rules.is_second arrow_tokens (λ b. b) arrow-printed arrow-bare (prints_either old L C L' C' _ _ _ _ _ _ equals (sign (codes "<=") refl))
 
-    assigned-printed : (b : Bool) (t : Placed Target) (x : Expr) → tokens.stmt_tokens (rules.assigned_by b t x) ≡ tokens.target_tokens t.tree ++ (arrow_tokens b ++ (expr_tokens x ++ (mark (codes ";") ∷ [])))
+    assigned-printed : (b : Bool) (t : Placed Target) (x : Expr) →
+        tokens.stmt_tokens (rules.assigned_by b t x) ≡ tokens.target_tokens t.tree ++ (arrow_tokens b ++ (expr_tokens x ++ (mark (codes ";") ∷ [])))
     assigned-printed false t x = written.stmt-Now t.tree x t.place
     assigned-printed true t x = written.stmt-Later t.tree x t.place
 
@@ -399,7 +415,8 @@ module _ (old : List ℕ) (L : Leaves base) (C : Calls base) (L' : List ℕ → 
 
     assignment : P rules.assignment tokens.stmt_tokens bare_source.stmt
     assignment =
-        acted rules.assigned tokens.stmt_tokens bare_source.stmt (λ p. assigned-printed p.1.0 p.0 p.1.1.0) (λ p. assigned-bare p.1.0 p.0 p.1.1.0) (pair parts.target (pair arrow (pair value semicolon)))
+        acted rules.assigned tokens.stmt_tokens bare_source.stmt (λ p. assigned-printed p.1.0 p.0 p.1.1.0) (λ p. assigned-bare p.1.0 p.0 p.1.1.0)
+            (pair parts.target (pair arrow (pair value semicolon)))
 
     pub stmt_rule : P rules.stmt_rule tokens.stmt_tokens bare_source.stmt
     unfolding kind_of is_word
@@ -441,7 +458,8 @@ module _ (old : List ℕ) (L : Leaves base) (C : Calls base) (L' : List ℕ → 
     event : P rules.event tokens.watch_tokens bare_source.watch
     event =
         or (acted rules.star_event tokens.watch_tokens bare_source.watch (λ t. refl) (λ t. refl) star)
-        (prints_where old L C L' C' rules.behind (both rules.opens rules.event_inside) (λ p. (mark (codes "(") ∷ []) ++ inside_watch p.1) (λ p. (plain p.0, bare_source.watch p.1)) tokens.watch_tokens bare_source.watch
+        (prints_where old L C L' C' rules.behind (both rules.opens rules.event_inside) (λ p. (mark (codes "(") ∷ []) ++ inside_watch p.1)
+            (λ p. (plain p.0, bare_source.watch p.1)) tokens.watch_tokens bare_source.watch
         behind-spelled (λ p. refl) (pair opens event-inside))
 
     always : P rules.always tokens.item_tokens bare_source.item
@@ -454,7 +472,8 @@ module _ (old : List ℕ) (L : Leaves base) (C : Calls base) (L' : List ℕ → 
     abbrev conn_end_tokens : Option Expr → List Written
     conn_end_tokens x = tokens.perhaps expr_tokens x ++ (mark (codes ")") ∷ [])
 
-    end-printed : (x : OneOf Lexeme (Expr × Lexeme)) → conn_end_tokens (rules.conn_value x) ≡ on_left_or_right (λ (t : Lexeme). mark (codes ")") ∷ []) (λ (p : Expr × Lexeme). expr_tokens p.0 ++ (mark (codes ")") ∷ [])) x
+    end-printed : (x : OneOf Lexeme (Expr × Lexeme)) → conn_end_tokens (rules.conn_value x) ≡ on_left_or_right (λ (t : Lexeme). mark (codes ")") ∷ [])
+        (λ (p : Expr × Lexeme). expr_tokens p.0 ++ (mark (codes ")") ∷ [])) x
     end-printed (left t) = refl
     end-printed (right p) = refl
 
@@ -475,11 +494,13 @@ module _ (old : List ℕ) (L : Leaves base) (C : Calls base) (L' : List ℕ → 
     abbrev conns_end_tokens : List Conn → List Written
     conns_end_tokens list = commas (map tokens.conn_tokens list) ++ (mark (codes ")") ∷ [])
 
-    conns-printed : (x : OneOf Lexeme (List Conn × Lexeme)) → conns_end_tokens (rules.conns_or_none x) ≡ on_left_or_right (λ (t : Lexeme). mark (codes ")") ∷ []) (λ (p : List Conn × Lexeme). commas (map tokens.conn_tokens p.0) ++ (mark (codes ")") ∷ [])) x
+    conns-printed : (x : OneOf Lexeme (List Conn × Lexeme)) → conns_end_tokens (rules.conns_or_none x) ≡ on_left_or_right (λ (t : Lexeme). mark (codes ")") ∷ [])
+        (λ (p : List Conn × Lexeme). commas (map tokens.conn_tokens p.0) ++ (mark (codes ")") ∷ [])) x
     conns-printed (left t) = refl
     conns-printed (right p) = refl
 
-    conns-bare : (x : OneOf Lexeme (List Conn × Lexeme)) → map bare_source.conn (rules.conns_or_none x) ≡ rules.conns_or_none (each_side plain (λ (p : List Conn × Lexeme). (map bare_source.conn p.0, plain p.1)) x)
+    conns-bare : (x : OneOf Lexeme (List Conn × Lexeme)) → map bare_source.conn (rules.conns_or_none x) ≡ rules.conns_or_none (each_side plain (λ (p : List Conn × Lexeme). (map
+        bare_source.conn p.0, plain p.1)) x)
     conns-bare (left t) = refl
     conns-bare (right p) = refl
 
@@ -502,7 +523,8 @@ module _ (old : List ℕ) (L : Leaves base) (C : Calls base) (L' : List ℕ → 
     list-some : {A : Type 0} (g : Gram base A) (us : List Lexeme) (o : Bool) (xs : List A) → Spells base L C (rules.list g) us o xs → IsSome xs
     list-some g us o xs h = record { first = h.0.0; others = map rules.behind h.0.1; is = sym h.2 }
 
-    conns-by : (us : List Lexeme) (o : Bool) (y : OneOf (List Conn) (List Conn)) → Spells base L C (either (rules.list rules.named_conn) (rules.list rules.ordered_conn)) us o y → IsSome (rules.one_of rules.same_tree rules.same_tree y)
+    conns-by : (us : List Lexeme) (o : Bool) (y : OneOf (List Conn) (List Conn)) → Spells base L C (either (rules.list rules.named_conn) (rules.list rules.ordered_conn)) us o y →
+        IsSome (rules.one_of rules.same_tree rules.same_tree y)
     conns-by us o (left y) h = list-some rules.named_conn us o y h
     conns-by us o (right y) h = list-some rules.ordered_conn us o y h
 
@@ -527,8 +549,10 @@ module _ (old : List ℕ) (L : Leaves base) (C : Calls base) (L' : List ℕ → 
 
     overrides : P rules.overrides (λ list. tokens.hash (map tokens.conn_tokens list)) (map bare_source.conn)
     overrides =
-        prints_where old L C L' C' rules.some_or_none (perhaps (rules.hash rules.conns)) (tokens.perhaps (λ list. mark (codes "#") ∷ parens (commas (map tokens.conn_tokens list)))) (option_map (map bare_source.conn))
-        (λ list. tokens.hash (map tokens.conn_tokens list)) (map bare_source.conn) overrides-spelled (some-bare bare_source.conn) (some (hashed rules.conns (λ list. commas (map tokens.conn_tokens list)) (map bare_source.conn) conns))
+        prints_where old L C L' C' rules.some_or_none (perhaps (rules.hash rules.conns)) (tokens.perhaps (λ list. mark (codes "#") ∷ parens (commas (map tokens.conn_tokens list))))
+            (option_map (map bare_source.conn))
+        (λ list. tokens.hash (map tokens.conn_tokens list)) (map bare_source.conn) overrides-spelled (some-bare bare_source.conn)
+            (some (hashed rules.conns (λ list. commas (map tokens.conn_tokens list)) (map bare_source.conn) conns))
 
     instance : P rules.instance tokens.item_tokens bare_source.item
     unfolding tokens.item_tokens bare_source.item
@@ -539,7 +563,8 @@ module _ (old : List ℕ) (L : Leaves base) (C : Calls base) (L' : List ℕ → 
 
     generate : P rules.generate tokens.item_tokens bare_source.item
     unfolding kind_of is_word
-    generate = acted rules.generate_item tokens.item_tokens bare_source.item (λ p. written.item-Generate p.1) (λ p. unplaced.item-Generate p.1) (pair (keyword (codes "generate") refl) (block-items (codes "endgenerate") refl))
+    generate = acted rules.generate_item tokens.item_tokens bare_source.item (λ p. written.item-Generate p.1) (λ p. unplaced.item-Generate p.1) (pair (keyword (codes "generate") refl)
+        (block-items (codes "endgenerate") refl))
 
     abbrev named_tokens : Ident × List Item → List Written
     named_tokens b = (word (codes "begin") ∷ []) ++ ((mark (codes ":") ∷ []) ++ (tokens.ident_tokens b.0 ++ (joined (map tokens.item_tokens b.1) ++ (word (codes "end") ∷ []))))
@@ -599,13 +624,15 @@ module _ (old : List ℕ) (L : Leaves base) (C : Calls base) (L' : List ℕ → 
       map-last m (a ∷ xs) y = ap (λ z. m a ∷ z) (map-last m xs y)
 
       commas-last : (a : X) (ys : List X) (z : X) → commas (map xc ((a ∷ ys) ++ (z ∷ []))) ≡ commas (map xc (a ∷ ys)) ++ (mark (codes ",") ∷ xc z)
-      commas-last a ys z = ap (λ l. xc a ++ others l) (map-last xc ys z) ∙ ap (λ l. xc a ++ l) (others-last (map xc ys) (xc z)) ∙ sym (append_assoc (xc a) (others (map xc ys)) (mark (codes ",") ∷ xc z))
+      commas-last a ys z = ap (λ l. xc a ++ others l) (map-last xc ys z) ∙ ap (λ l. xc a ++ l) (others-last (map xc ys) (xc z)) ∙
+          sym (append_assoc (xc a) (others (map xc ys)) (mark (codes ",") ∷ xc z))
 
       one-group : (q : List Written) → commas (q ∷ []) ≡ q
       one-group q = ap (λ z. q ++ z) others-none ∙ append-nil q
 
       groups-printed : (y : H) (a : X) (ys : List X) (es : List Entry) → commas (map qc (rules.groups f y (a ∷ ys) es)) ≡ (hc y ++ commas (map xc (a ∷ ys))) ++ joined (map entry_tokens es)
-      groups-printed y a ys [] = one-group (qc (f y (a ∷ ys))) ∙ of y (a ∷ ys) ∙ sym (append-nil (hc y ++ commas (map xc (a ∷ ys)))) ∙ ap (λ z. (hc y ++ commas (map xc (a ∷ ys))) ++ z) (sym joined-none)
+      groups-printed y a ys [] = one-group (qc (f y (a ∷ ys))) ∙ of y (a ∷ ys) ∙ sym (append-nil (hc y ++ commas (map xc (a ∷ ys)))) ∙
+          ap (λ z. (hc y ++ commas (map xc (a ∷ ys))) ++ z) (sym joined-none)
       groups-printed y a ys ((t, (None, z)) ∷ es) =
           groups-printed y a (ys ++ (z ∷ [])) es ∙ ap (λ l. (hc y ++ l) ++ joined (map entry_tokens es)) (commas-last a ys z) ∙
           ap (λ l. l ++ joined (map entry_tokens es)) (sym (append_assoc (hc y) (commas (map xc (a ∷ ys))) (mark (codes ",") ∷ xc z))) ∙
@@ -639,7 +666,8 @@ module _ (old : List ℕ) (L : Leaves base) (C : Calls base) (L' : List ℕ → 
 
     params-header : P rules.params_header (λ p. word (codes "parameter") ∷ tokens.header_tokens p.0 p.1) (λ p. (p.0, option_map bare_source.range p.1))
     unfolding kind_of is_word
-    params-header = acted rules.behind (λ p. word (codes "parameter") ∷ tokens.header_tokens p.0 p.1) (λ p. (p.0, option_map bare_source.range p.1)) (λ p. refl) (λ p. refl) (pair (keyword (codes "parameter") refl) header)
+    params-header = acted rules.behind (λ p. word (codes "parameter") ∷ tokens.header_tokens p.0 p.1) (λ p. (p.0, option_map bare_source.range p.1)) (λ p. refl) (λ p. refl)
+        (pair (keyword (codes "parameter") refl) header)
 
     abbrev params_header_tokens : rules.Header → List Written
     params_header_tokens p = word (codes "parameter") ∷ tokens.header_tokens p.0 p.1
@@ -649,11 +677,13 @@ module _ (old : List ℕ) (L : Leaves base) (C : Calls base) (L' : List ℕ → 
 
     group-list : P rules.group_list (λ list. commas (map tokens.group_tokens list)) (map bare_source.params)
     group-list =
-        grouped rules.params_of rules.params_header rules.setting params_header_tokens tokens.setting_tokens tokens.group_tokens bare_header bare_source.setting bare_source.params (λ y ys. refl) (λ y ys. refl) params-header setting
+        grouped rules.params_of rules.params_header rules.setting params_header_tokens tokens.setting_tokens tokens.group_tokens bare_header bare_source.setting bare_source.params (λ y ys.
+            refl) (λ y ys. refl) params-header setting
 
     group-some : (us : List Lexeme) (o : Bool) (xs : List Params) → Spells base L C rules.group_list us o xs → IsSome xs
     group-some us o xs h =
-        grouped_some rules.params_of rules.params_header rules.setting params_header_tokens tokens.setting_tokens tokens.group_tokens bare_header bare_source.setting bare_source.params (λ y ys. refl) (λ y ys. refl) us o xs h
+        grouped_some rules.params_of rules.params_header rules.setting params_header_tokens tokens.setting_tokens tokens.group_tokens bare_header bare_source.setting bare_source.params (λ y
+            ys. refl) (λ y ys. refl) us o xs h
 
     params-spelled : (us : List Lexeme) (o : Bool) (x : Option (List Params)) → Spells base L C (perhaps (rules.hash rules.group_list)) us o x →
         tokens.hash (map tokens.group_tokens (rules.some_or_none x)) ≡ tokens.perhaps (λ list. mark (codes "#") ∷ parens (commas (map tokens.group_tokens list))) x
@@ -662,19 +692,23 @@ module _ (old : List ℕ) (L : Leaves base) (C : Calls base) (L' : List ℕ → 
 
     module-params : P rules.module_params (λ list. tokens.hash (map tokens.group_tokens list)) (map bare_source.params)
     module-params =
-        prints_where old L C L' C' rules.some_or_none (perhaps (rules.hash rules.group_list)) (tokens.perhaps (λ list. mark (codes "#") ∷ parens (commas (map tokens.group_tokens list)))) (option_map (map bare_source.params))
+        prints_where old L C L' C' rules.some_or_none (perhaps (rules.hash rules.group_list)) (tokens.perhaps (λ list. mark (codes "#") ∷ parens (commas (map tokens.group_tokens list))))
+            (option_map (map bare_source.params))
         (λ list. tokens.hash (map tokens.group_tokens list)) (map bare_source.params) params-spelled (some-bare bare_source.params)
         (some (hashed rules.group_list (λ list. commas (map tokens.group_tokens list)) (map bare_source.params) group-list))
 
     declared-ports : P rules.declared_ports (λ list. commas (map tokens.port_tokens list)) (map bare_source.port)
     declared-ports =
-        grouped rules.aport_of rules.port_header rules.ident port_header_tokens tokens.ident_tokens tokens.port_tokens bare_port_header bare_source.ident bare_source.port (λ y ys. refl) (λ y ys. refl) port-header ident
+        grouped rules.aport_of rules.port_header rules.ident port_header_tokens tokens.ident_tokens tokens.port_tokens bare_port_header bare_source.ident bare_source.port (λ y ys. refl)
+            (λ y ys. refl) port-header ident
 
-    ports-printed : (x : OneOf (List Aport) (List Ident)) → inside_ports (rules.one_of ports.Declared ports.Names x) ≡ on_left_or_right (λ list. commas (map tokens.port_tokens list)) (λ xs. commas (map tokens.ident_tokens xs)) x
+    ports-printed : (x : OneOf (List Aport) (List Ident)) → inside_ports (rules.one_of ports.Declared ports.Names x) ≡ on_left_or_right (λ list. commas (map tokens.port_tokens list))
+        (λ xs. commas (map tokens.ident_tokens xs)) x
     ports-printed (left list) = refl
     ports-printed (right xs) = refl
 
-    ports-bare : (x : OneOf (List Aport) (List Ident)) → bare_source.port_list (rules.one_of ports.Declared ports.Names x) ≡ rules.one_of ports.Declared ports.Names (each_side (map bare_source.port) (map bare_source.ident) x)
+    ports-bare : (x : OneOf (List Aport) (List Ident)) → bare_source.port_list (rules.one_of ports.Declared ports.Names x) ≡ rules.one_of ports.Declared ports.Names (each_side (map
+        bare_source.port) (map bare_source.ident) x)
     ports-bare (left list) = refl
     ports-bare (right xs) = refl
 
@@ -684,11 +718,13 @@ module _ (old : List ℕ) (L : Leaves base) (C : Calls base) (L' : List ℕ → 
     abbrev ports_end_tokens : Ports → List Written
     ports_end_tokens x = inside_ports x ++ (mark (codes ")") ∷ [])
 
-    ports-end-printed : (x : OneOf Lexeme (Ports × Lexeme)) → ports_end_tokens (rules.ports_or_empty x) ≡ on_left_or_right (λ (t : Lexeme). mark (codes ")") ∷ []) (λ (p : Ports × Lexeme). inside_ports p.0 ++ (mark (codes ")") ∷ [])) x
+    ports-end-printed : (x : OneOf Lexeme (Ports × Lexeme)) → ports_end_tokens (rules.ports_or_empty x) ≡ on_left_or_right (λ (t : Lexeme). mark (codes ")") ∷ [])
+        (λ (p : Ports × Lexeme). inside_ports p.0 ++ (mark (codes ")") ∷ [])) x
     ports-end-printed (left t) = refl
     ports-end-printed (right p) = refl
 
-    ports-end-bare : (x : OneOf Lexeme (Ports × Lexeme)) → bare_source.port_list (rules.ports_or_empty x) ≡ rules.ports_or_empty (each_side plain (λ (p : Ports × Lexeme). (bare_source.port_list p.0, plain p.1)) x)
+    ports-end-bare : (x : OneOf Lexeme (Ports × Lexeme)) → bare_source.port_list (rules.ports_or_empty x) ≡ rules.ports_or_empty (each_side plain (λ (p : Ports × Lexeme).
+        (bare_source.port_list p.0, plain p.1)) x)
     ports-end-bare (left t) = refl
     ports-end-bare (right p) = refl
 
@@ -715,7 +751,8 @@ module _ (old : List ℕ) (L : Leaves base) (C : Calls base) (L' : List ℕ → 
     ports-spelled us o None h = refl
     ports-spelled us o (Some p) h = ports-there h.1 h.3 p.1 h.6
 
-    absent-bare : (x : Option (Lexeme × Ports)) → bare_source.port_list (rules.ports_or_absent x) ≡ rules.ports_or_absent (option_map (λ (p : Lexeme × Ports). (plain p.0, bare_source.port_list p.1)) x)
+    absent-bare : (x : Option (Lexeme × Ports)) → bare_source.port_list (rules.ports_or_absent x) ≡ rules.ports_or_absent (option_map (λ (p : Lexeme × Ports). (plain p.0,
+        bare_source.port_list p.1)) x)
     absent-bare None = refl
     absent-bare (Some p) = refl
 
@@ -726,7 +763,8 @@ module _ (old : List ℕ) (L : Leaves base) (C : Calls base) (L' : List ℕ → 
 
     items-to-end : P rules.items_to_end (λ xs. joined (map tokens.item_tokens xs) ++ (word (codes "endmodule") ∷ [])) (map bare_source.item)
     unfolding kind_of is_word
-    items-to-end = acted rules.before (λ xs. joined (map tokens.item_tokens xs) ++ (word (codes "endmodule") ∷ [])) (map bare_source.item) (λ p. refl) (λ p. refl) (upto parts.item (keyword (codes "endmodule") refl))
+    items-to-end = acted rules.before (λ xs. joined (map tokens.item_tokens xs) ++ (word (codes "endmodule") ∷ [])) (map bare_source.item) (λ p. refl) (λ p. refl)
+        (upto parts.item (keyword (codes "endmodule") refl))
 
     head-first : (a b c d : List Written) → (a ++ (b ++ c)) ++ d ≡ a ++ (b ++ (c ++ d))
     head-first a b c d = append_assoc a (b ++ c) d ∙ ap (λ z. a ++ z) (append_assoc b c d)
@@ -736,12 +774,14 @@ module _ (old : List ℕ) (L : Leaves base) (C : Calls base) (L' : List ℕ → 
     module-rule =
         acted rules.module_of tokens.module_tokens bare_source.module_tree
         (λ p. ap (λ z. word (codes "module") ∷ name p.1.0.name ∷ z)
-        (head-first (tokens.hash (map tokens.group_tokens p.1.1.0)) (tokens.ports_tokens p.1.1.1.0) (mark (codes ";") ∷ []) (joined (map tokens.item_tokens p.1.1.1.1.1) ++ (word (codes "endmodule") ∷ []))))
+        (head-first (tokens.hash (map tokens.group_tokens p.1.1.0)) (tokens.ports_tokens p.1.1.1.0) (mark (codes ";") ∷ [])
+            (joined (map tokens.item_tokens p.1.1.1.1.1) ++ (word (codes "endmodule") ∷ []))))
         (λ p. refl)
         (pair (keyword (codes "module") refl) (pair ident (pair module-params (pair module-ports (pair semicolon items-to-end)))))
 
     pub source_rule : P rules.source_rule tokens.source_tokens bare_source.source
-    source_rule = acted rules.source_of tokens.source_tokens bare_source.source (λ p. joined-more (tokens.module_tokens p.0) (map tokens.module_tokens p.1)) (λ p. refl) (pair module-rule (any module-rule))
+    source_rule = acted rules.source_of tokens.source_tokens bare_source.source (λ p. joined-more (tokens.module_tokens p.0) (map tokens.module_tokens p.1)) (λ p. refl)
+        (pair module-rule (any module-rule))
 
 pub both_true : (a b : Bool) → (a && b) ≡ true → (a ≡ true) × (b ≡ true)
 both_true true b h = (refl, h)

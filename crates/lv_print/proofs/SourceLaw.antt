@@ -187,7 +187,8 @@ sources_read_back x s small =
     let q = b.again (text_of (source_tokens x)) (plain_at 0 (source_tokens x)) (are (source_tokens x) small) in
     record { tokens = plain_at 0 (source_tokens x); folded = folded (source_tokens x) b.whole; tree = q.tree; ending = s.ending; spelled = q.spelled; same = q.same }
 
-pub printed_source : (x : Source) (r : Result (List ℕ) NoMemory) (p q : Paper) → p ≡ empty → q ≡ with_tokens p (source_tokens x) → IfOk r (λ t. t ≡ q.bytes ++ end_gap q.last) → IfOk r (λ t. length t < 2 ^ 64) →
+pub printed_source : (x : Source) (r : Result (List ℕ) NoMemory) (p q : Paper) → p ≡ empty → q ≡ with_tokens p (source_tokens x) → IfOk r (λ t. t ≡ q.bytes ++ end_gap q.last) →
+    IfOk r (λ t. length t < 2 ^ 64) →
     IfOk r (λ t. IsSpelledSource x → ReadsBackSource x t)
 printed_source x (Ok t) p q e f g h = λ s.
     let i : t ≡ text_of (source_tokens x) = finished (source_tokens x) p q t e f g in

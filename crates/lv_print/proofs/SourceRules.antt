@@ -42,7 +42,8 @@ pub stmt-Null : stmt_tokens b.Null ≡ end
 unfolding stmt_tokens
 stmt-Null = fold.fold_stmt-Null (List Written) (List Written) stmt_step arm_step
 
-pub stmt-Block : (label : Option Ident) (ss : List Stmt) → stmt_tokens (b.Block label ss) ≡ word (codes "begin") ∷ (perhaps label_tokens label ++ (joined (map stmt_tokens ss) ++ (word (codes "end") ∷ [])))
+pub stmt-Block : (label : Option Ident) (ss : List Stmt) → stmt_tokens (b.Block label ss) ≡ word (codes "begin") ∷ (perhaps label_tokens label ++ (joined (map stmt_tokens ss) ++ (word
+    (codes "end") ∷ [])))
 unfolding stmt_tokens
 stmt-Block label ss = fold.fold_stmt-Block (List Written) (List Written) stmt_step arm_step label ss
 
@@ -50,7 +51,8 @@ pub stmt-If : (c : Expr) (s : Stmt) → stmt_tokens (b.If c s None) ≡ word (co
 unfolding stmt_tokens
 stmt-If c s = fold.fold_stmt-If (List Written) (List Written) stmt_step arm_step c s
 
-pub stmt-If_else : (c : Expr) (s r : Stmt) → stmt_tokens (b.If c s (Some r)) ≡ word (codes "if") ∷ mark (codes "(") ∷ (expr_tokens c ++ (mark (codes ")") ∷ (stmt_tokens s ++ else_tokens (stmt_tokens r))))
+pub stmt-If_else : (c : Expr) (s r : Stmt) → stmt_tokens (b.If c s (Some r)) ≡ word (codes "if") ∷ mark (codes "(") ∷ (expr_tokens c ++ (mark (codes ")") ∷ (stmt_tokens s ++ else_tokens
+    (stmt_tokens r))))
 unfolding stmt_tokens
 stmt-If_else c s r = fold.fold_stmt-If_else (List Written) (List Written) stmt_step arm_step c s r
 
@@ -59,7 +61,8 @@ pub stmt-Case : (wild : Bool) (x : Expr) (arms : List Arm) →
 unfolding stmt_tokens
 stmt-Case wild x arms = fold.fold_stmt-Case (List Written) (List Written) stmt_step arm_step wild x arms
 
-pub stmt-Loop : (index : Ident) (start test : Expr) (again : Ident) (next : Expr) (s : Stmt) → stmt_tokens (b.Loop index start test again next s) ≡ loop_tokens index start test again next ++ stmt_tokens s
+pub stmt-Loop : (index : Ident) (start test : Expr) (again : Ident) (next : Expr) (s : Stmt) →
+    stmt_tokens (b.Loop index start test again next s) ≡ loop_tokens index start test again next ++ stmt_tokens s
 unfolding stmt_tokens
 stmt-Loop index start test again next s = fold.fold_stmt-Loop (List Written) (List Written) stmt_step arm_step index start test again next s
 
@@ -139,12 +142,14 @@ item-Loop index start test again next label xs = ap (λ ys. loop_tokens index st
 
 -- ---- as code writes them
 
-stmt-If_any : (c : Expr) (s : Stmt) (other : Option Stmt) → stmt_tokens (b.If c s other) ≡ word (codes "if") ∷ mark (codes "(") ∷ (expr_tokens c ++ (mark (codes ")") ∷ (stmt_tokens s ++ perhaps else_stmt other)))
+stmt-If_any : (c : Expr) (s : Stmt) (other : Option Stmt) → stmt_tokens (b.If c s other) ≡ word (codes "if") ∷ mark (codes "(") ∷ (expr_tokens c ++ (mark (codes ")") ∷ (stmt_tokens s ++
+    perhaps else_stmt other)))
 stmt-If_any c s None = stmt-If c s
 stmt-If_any c s (Some r) = stmt-If_else c s r
 
 -- a token, tokens in parentheses, and more
-parens-written : (p0 p1 p2 : Paper) (v : Written) (x y : List Written) → p1 ≡ put p0 v → p2 ≡ with_tokens p1 (parens x) → with_tokens p2 y ≡ with_tokens p0 (v ∷ mark (codes "(") ∷ (x ++ (mark (codes ")") ∷ y)))
+parens-written : (p0 p1 p2 : Paper) (v : Written) (x y : List Written) → p1 ≡ put p0 v → p2 ≡ with_tokens p1 (parens x) →
+    with_tokens p2 y ≡ with_tokens p0 (v ∷ mark (codes "(") ∷ (x ++ (mark (codes ")") ∷ y)))
 unfolding with_tokens
 parens-written p0 p1 p2 v x y h i =
     ap (λ z. with_tokens z y) (i ∙ ap (λ z. with_tokens z (parens x)) h ∙ with-append (put (put p0 v) (mark (codes "("))) x (mark (codes ")") ∷ [])) ∙
@@ -169,11 +174,13 @@ case_written x wild c list arms p0 p1 p2 p3 e f h i j =
     last-written p3 (word (codes "endcase")) ∙ two-written p2 p3 (joined (map arm_tokens arms)) (word (codes "endcase") ∷ []) (j ∙ ap (λ z. with_tokens p2 (joined (map arm_tokens z))) f) ∙
     parens-written p0 p1 p2 (case_word wild) (expr_tokens c) (joined (map arm_tokens arms) ++ (word (codes "endcase") ∷ [])) h i ∙ ap (with_tokens p0) (sym (ap stmt_tokens e ∙ stmt-Case wild c arms))
 
-pub generate_written : (x : Item) (list xs : List Item) (p0 p1 p2 : Paper) → x ≡ i.Generate xs → list ≡ xs → p1 ≡ put p0 (word (codes "generate")) → p2 ≡ with_tokens p1 (joined (map item_tokens list)) →
+pub generate_written : (x : Item) (list xs : List Item) (p0 p1 p2 : Paper) → x ≡ i.Generate xs → list ≡ xs → p1 ≡ put p0 (word (codes "generate")) →
+    p2 ≡ with_tokens p1 (joined (map item_tokens list)) →
     put p2 (word (codes "endgenerate")) ≡ with_tokens p0 (item_tokens x)
 generate_written x list xs p0 p1 p2 e f h i =
     last-written p2 (word (codes "endgenerate")) ∙ two-written p1 p2 (joined (map item_tokens xs)) (word (codes "endgenerate") ∷ []) (i ∙ ap (λ z. with_tokens p1 (joined (map item_tokens z))) f) ∙
-    ap (λ z. with_tokens z (joined (map item_tokens xs) ++ (word (codes "endgenerate") ∷ []))) h ∙ sym (with-more p0 (word (codes "generate")) _) ∙ ap (with_tokens p0) (sym (ap item_tokens e ∙ item-Generate xs))
+    ap (λ z. with_tokens z (joined (map item_tokens xs) ++ (word (codes "endgenerate") ∷ []))) h ∙ sym (with-more p0 (word (codes "generate")) _) ∙
+        ap (with_tokens p0) (sym (ap item_tokens e ∙ item-Generate xs))
 
 pub ruleset source_rules = (
   writing,

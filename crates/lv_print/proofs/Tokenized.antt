@@ -168,8 +168,10 @@ line-is w [] e = rw e refl
 line-is w (v ∷ vs) e = rw e refl
 
 gap-is : (w : Written) (ws : List Written) → ends_line w ≡ false → (behind w ws ≡ []) ⊎ (behind w ws ≡ 32 ∷ [])
-gap-is w [] e = rw e (elim (is_kind w.kind k.Escaped) as (λ b. (◌≡◌ {A = List ℕ} (if b then 32 ∷ [] else []) []) ⊎ (◌≡◌ {A = List ℕ} (if b then 32 ∷ [] else []) (32 ∷ []))) [ true ↦ inr refl | false ↦ inl refl ])
-gap-is w (v ∷ vs) e = rw e (elim (is_size w v) as (λ b. (◌≡◌ {A = List ℕ} (if b then [] else 32 ∷ []) []) ⊎ (◌≡◌ {A = List ℕ} (if b then [] else 32 ∷ []) (32 ∷ []))) [ true ↦ inl refl | false ↦ inr refl ])
+gap-is w [] e = rw e (elim (is_kind w.kind k.Escaped) as (λ b. (◌≡◌ {A = List ℕ} (if b then 32 ∷ [] else []) []) ⊎ (◌≡◌ {A = List ℕ} (if b then 32 ∷ [] else [])
+    (32 ∷ []))) [ true ↦ inr refl | false ↦ inl refl ])
+gap-is w (v ∷ vs) e = rw e (elim (is_size w v) as (λ b. (◌≡◌ {A = List ℕ} (if b then [] else 32 ∷ []) []) ⊎ (◌≡◌ {A = List ℕ} (if b then [] else 32 ∷ [])
+    (32 ∷ []))) [ true ↦ inl refl | false ↦ inr refl ])
 
 behind-there : (text : List ℕ) (q r : ℕ) (w : Written) (ws : List Written) (ts : List Token) (t : List ℕ) → drop q text ≡ behind w ws ++ t → AreTokensFrom text (q + length (behind w ws)) ts r →
     AreTokensFrom text q (line_at (ends_line w) q ++ ts) r
@@ -192,9 +194,12 @@ stand front (w ∷ ws) h =
     let text : List ℕ = front ++ (b ++ (g ++ t)) in
     let whole : (front ++ (b ++ g)) ++ t ≡ text = append_assoc front (b ++ g) t ∙ ap (λ z. front ++ z) (append_assoc b g t) in
     let long : length (front ++ (b ++ g)) ≡ (length front + length b) + length g = (let l = length-append front (b ++ g) in let m = length-append b g in omega (arith, l, m)) in
-    let inside : AreTokensFrom ((front ++ (b ++ g)) ++ t) (length (front ++ (b ++ g))) (tokens_at (length (front ++ (b ++ g))) ws) (length ((front ++ (b ++ g)) ++ t)) = stand (front ++ (b ++ g)) ws h.1 in
-    let there : AreTokensFrom text (length (front ++ (b ++ g))) (tokens_at (length (front ++ (b ++ g))) ws) (length text) = subst (λ z. AreTokensFrom z (length (front ++ (b ++ g))) (tokens_at (length (front ++ (b ++ g))) ws) (length z)) whole inside in
-    let rest : AreTokensFrom text ((length front + length b) + length g) (tokens_at ((length front + length b) + length g) ws) (length text) = subst (λ n. AreTokensFrom text n (tokens_at n ws) (length text)) long there in (
+    let inside : AreTokensFrom ((front ++ (b ++ g)) ++ t) (length (front ++ (b ++ g))) (tokens_at (length (front ++ (b ++ g))) ws)
+        (length ((front ++ (b ++ g)) ++ t)) = stand (front ++ (b ++ g)) ws h.1 in
+    let there : AreTokensFrom text (length (front ++ (b ++ g))) (tokens_at (length (front ++ (b ++ g))) ws) (length text) = subst (λ z. AreTokensFrom z (length (front ++ (b ++ g)))
+        (tokens_at (length (front ++ (b ++ g))) ws) (length z)) whole inside in
+    let rest : AreTokensFrom text ((length front + length b) + length g) (tokens_at ((length front + length b) + length g) ws)
+        (length text) = subst (λ n. AreTokensFrom text n (tokens_at n ws) (length text)) long there in (
       lists.none refl,
       token-there text (length front) (length text) [] w.kind b (g ++ t) (drop-append_seam front (b ++ (g ++ t))) h.0.ordinary h.0.kind (rest-of w ws h.1),
       behind-there text (length front + length b) (length text) w ws _ t (drop-more front b (g ++ t)) rest,
@@ -202,7 +207,8 @@ stand front (w ∷ ws) h =
 
 -- ---- directives leave them
 
-step-plain : (text : List ℕ) (j : Kind) (p q : ℕ) (ts : List Token) → is_ordinary j ≡ true → step_of text [] [] (token j p q) ts ≡ record { reading = one (token j p q); macros = []; branches = []; taken = 0 }
+step-plain : (text : List ℕ) (j : Kind) (p q : ℕ) (ts : List Token) → is_ordinary j ≡ true → step_of text [] [] (token j p q) ts ≡ record { reading = one (token j p q); macros = [];
+    branches = []; taken = 0 }
 unfolding step_of
 step-plain text k.Name p q ts o = refl
 step-plain text k.Escaped p q ts o = refl
@@ -222,7 +228,8 @@ step-line text p q ts = refl
 abbrev gives : List Token → Reading
 gives ts = record { tokens = ts; uses = 0; stop = None }
 
-read-plain : (text : List ℕ) (j : Kind) (p q : ℕ) (ts us : List Token) → is_ordinary j ≡ true → reading_from text 0 [] [] ts ≡ gives us → reading_from text 0 [] [] (token j p q ∷ ts) ≡ gives (token j p q ∷ us)
+read-plain : (text : List ℕ) (j : Kind) (p q : ℕ) (ts us : List Token) → is_ordinary j ≡ true → reading_from text 0 [] [] ts ≡ gives us →
+    reading_from text 0 [] [] (token j p q ∷ ts) ≡ gives (token j p q ∷ us)
 unfolding reading_from followed
 read-plain text j p q ts us o h =
     ap (λ (s : Step). followed s.reading (reading_from text s.taken s.macros s.branches ts)) (step-plain text j p q ts o) ∙ ap (λ r. followed (one (token j p q)) r) h

@@ -32,7 +32,8 @@ number (e.Lit l) = Some l.value
 number _ = None
 
 -- the marks that are written
-marks-whole : IsWhole (mark (codes "(")) × IsWhole (mark (codes ")")) × IsWhole (mark (codes "{")) × IsWhole (mark (codes "}")) × IsWhole (mark (codes "[")) × IsWhole (mark (codes "]")) × IsWhole (mark (codes ",")) × IsWhole (mark (codes ":")) × IsWhole (mark (codes "?"))
+marks-whole : IsWhole (mark (codes "(")) × IsWhole (mark (codes ")")) × IsWhole (mark (codes "{")) × IsWhole (mark (codes "}")) × IsWhole (mark (codes "[")) × IsWhole (mark (codes "]")) ×
+    IsWhole (mark (codes ",")) × IsWhole (mark (codes ":")) × IsWhole (mark (codes "?"))
 unfolding kind_of is_mark is_digit
 marks-whole = (whole_mark _ refl, whole_mark _ refl, whole_mark _ refl, whole_mark _ refl, whole_mark _ refl, whole_mark _ refl, whole_mark _ refl, whole_mark _ refl, whole_mark _ refl)
 
@@ -158,7 +159,8 @@ module _ (p : Bool) where
   unary_back op s f l u w x h = record {
     whole = subst AreWhole (sym (tokens-Un op x)) (parens_whole (mark (op_bytes op) ∷ expr_tokens x) (w, h.whole));
     again = λ bytes ts a.
-        let c : Enclosed bytes ts (mark (op_bytes op) ∷ expr_tokens x) t.LeftParen t.RightParen = enclosed bytes ts (codes "(") (codes ")") _ t.LeftParen t.RightParen refl refl (subst (Are bytes ts) (tokens-Un op x) a) in
+        let c : Enclosed bytes ts (mark (op_bytes op) ∷ expr_tokens x) t.LeftParen t.RightParen = enclosed bytes ts (codes "(")
+            (codes ")") _ t.LeftParen t.RightParen refl refl (subst (Are bytes ts) (tokens-Un op x) a) in
         let b : Behind bytes c.inside (mark (op_bytes op)) (expr_tokens x) = behind_of bytes c.inside _ _ c.are in
         let q : TreeAgain bytes b.rest x = h.again bytes b.rest b.are in
         let tight : 13 ≤ rank q.form = q.tight in
@@ -179,7 +181,8 @@ module _ (p : Bool) where
   infix_back m s build f low high w tokens built un np x y h i = record {
     whole = subst AreWhole (sym (tokens x y)) (parens_whole _ (middle_whole m _ _ w h.whole i.whole));
     again = λ bytes ts a.
-        let c : Enclosed bytes ts (expr_tokens x ++ (mark m ∷ expr_tokens y)) t.LeftParen t.RightParen = enclosed bytes ts (codes "(") (codes ")") _ t.LeftParen t.RightParen refl refl (subst (Are bytes ts) (tokens x y) a) in
+        let c : Enclosed bytes ts (expr_tokens x ++ (mark m ∷ expr_tokens y)) t.LeftParen t.RightParen = enclosed bytes ts (codes "(")
+            (codes ")") _ t.LeftParen t.RightParen refl refl (subst (Are bytes ts) (tokens x y) a) in
         let b : Middle bytes c.inside (expr_tokens x) (expr_tokens y) (t.Sign s) = middle bytes c.inside m _ _ (t.Sign s) f c.are in
         let q : TreeAgain bytes b.left x = h.again bytes b.left b.left_are in
         let r : TreeAgain bytes b.right y = i.again bytes b.right b.right_are in
@@ -190,7 +193,8 @@ module _ (p : Bool) where
           spells = c.spells (text q.form ++ (t.Sign s ∷ text r.form)) (b.spells (text q.form) (text r.form) q.spells r.spells);
           valid = ((q.valid, r.valid, omega (arith, qt, high), omega (arith, rt, high), low), omega (arith, low));
           tight = omega arith;
-          same = ap unplaced.expr (built (tree bytes q.form) (tree bytes r.form)) ∙ un _ _ ∙ ap (λ z. build z (unplaced.expr (tree bytes r.form))) q.same ∙ ap (build (unplaced.expr x)) r.same ∙ sym (un x y);
+          same = ap unplaced.expr (built (tree bytes q.form) (tree bytes r.form)) ∙ un _ _ ∙ ap (λ z. build z (unplaced.expr (tree bytes r.form))) q.same ∙
+              ap (build (unplaced.expr x)) r.same ∙ sym (un x y);
           plain = never (build x y) (paren (binary s q.form r.form)) (np x y);
         };
   }
@@ -227,7 +231,8 @@ module _ (p : Bool) where
   brace_back xs h = record {
     whole = subst AreWhole (sym (tokens-Cat xs)) (braces_whole _ h.whole);
     again = λ bytes ts a.
-        let c : Enclosed bytes ts (commas (map expr_tokens xs)) t.LeftBrace t.RightBrace = enclosed bytes ts (codes "{") (codes "}") _ t.LeftBrace t.RightBrace refl refl (subst (Are bytes ts) (tokens-Cat xs) a) in
+        let c : Enclosed bytes ts (commas (map expr_tokens xs)) t.LeftBrace t.RightBrace = enclosed bytes ts (codes "{")
+            (codes "}") _ t.LeftBrace t.RightBrace refl refl (subst (Are bytes ts) (tokens-Cat xs) a) in
         let q : ListAgain bytes c.inside xs = h.again bytes c.inside c.are in
         record {
           form = brace q.form;
@@ -285,7 +290,8 @@ module _ (p : Bool) where
         let qt : 13 ≤ rank q.form = q.tight in
         record {
           form = cast b q.form;
-          spells = spells_cons bytes w.token ts w.rest (t.Cast b) _ w.cut (at_written bytes w.token (cast_word b) (t.Cast b) (cast-symbol b w.token.start w.token.end) w.at) (c.spells (text q.form) q.spells);
+          spells = spells_cons bytes w.token ts w.rest (t.Cast b) _ w.cut (at_written bytes w.token (cast_word b) (t.Cast b) (cast-symbol b w.token.start w.token.end) w.at)
+              (c.spells (text q.form) q.spells);
           valid = (q.valid, omega (arith, qt));
           tight = omega arith;
           same = unplaced-Cast b (tree bytes q.form) ∙ ap (e.Cast b) q.same ∙ sym (unplaced-Cast b x);

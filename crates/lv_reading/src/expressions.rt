@@ -1,12 +1,15 @@
 //! Expressions: the trees are written by hand, each node in parentheses.
+use crate::shapes::repeated;
 use lv_ast::{Expr, Literal, Path, Select};
 use lv_bits::Op;
 use lv_exprs::{SyntaxError, read_expr};
+use lv_held::Held;
 use lv_lexer::lex;
 use std::alloc::Global;
 use std::test::Fail;
 
-fn op_text(op: Op) -> &'static str {
+/// How an operator is spelled.
+pub fn op_text(op: Op) -> &'static str {
     match op {
         Op::Neg => "-",
         Op::Not => "~",
@@ -170,207 +173,196 @@ fn show(alloc: Global, out: &mut Vec<u8>, e: &Expr) -> Result<(), Fail> {
     put(out, bracket(e, ")"))
 }
 
-/// The number of tokens and the tree, or the refusal.
-fn answer(alloc: Global, text: &[u8], paths: bool) -> Result<Vec<u8>, Fail> {
+/// The number of tokens and the tree, or the refusal. Where the tree is not wanted, the number alone.
+fn answer(alloc: Global, text: &[u8], paths: bool, shown: bool) -> Result<Vec<u8>, Fail> {
     let mut out = Vec::new(alloc);
     let Ok(tokens) = lex(alloc, text) else {
         return Err(Fail::from("no tokens"));
     };
     match read_expr(alloc, &tokens, 0, paths) {
-        Ok((e, end)) => {
-            put(&mut out, format!(in alloc; "{} ", end)?.as_str())?;
-            show(alloc, &mut out, &e)?;
-        }
-        Err(SyntaxError::Syntax(k)) => put(&mut out, format!(in alloc; "syntax {}", k)?.as_str())?,
-        Err(SyntaxError::Depth(k)) => put(&mut out, format!(in alloc; "depth {}", k)?.as_str())?,
+        Ok((e, end)) => accepted(alloc, &mut out, Held::new(e), end, shown)?,
+        Err(SyntaxError::Syntax(k)) => put(&mut out, format!(in alloc; "syntax {k}")?.as_str())?,
+        Err(SyntaxError::Depth(k)) => put(&mut out, format!(in alloc; "depth {k}")?.as_str())?,
         Err(SyntaxError::NoMemory) => put(&mut out, "no memory")?,
     }
     Ok(out)
 }
 
-const ROWS: [(&str, &str); 83] = [
-    ("a ;", "1 a"),
-    ("a + ;", "syntax 2"),
-    ("", "syntax 0"),
-    (";", "syntax 0"),
-    ("a +", "syntax 2"),
-    ("( a", "syntax 2"),
-    ("a )", "1 a"),
-    ("a b", "1 a"),
-    ("a || b && c", "5 (a||(b&&c))"),
-    ("a && b || c", "5 ((a&&b)||c)"),
-    ("a && b | c", "5 (a&&(b|c))"),
-    ("a | b && c", "5 ((a|b)&&c)"),
-    ("a | b ^ c", "5 (a|(b^c))"),
-    ("a ^ b | c", "5 ((a^b)|c)"),
-    ("a ^ b & c", "5 (a^(b&c))"),
-    ("a & b ^~ c", "5 ((a&b)~^c)"),
-    ("a & b == c", "5 (a&(b==c))"),
-    ("a != b & c", "5 ((a!=b)&c)"),
-    ("a == b < c", "5 (a==(b<c))"),
-    ("a <= b != c", "5 ((a<=b)!=c)"),
-    ("a > b << c", "5 (a>(b<<c))"),
-    ("a >> b >= c", "5 ((a>>b)>=c)"),
-    ("a <<< b + c", "5 (a<<(b+c))"),
-    ("a - b >>> c", "5 ((a-b)>>>c)"),
-    ("a + b * c", "5 (a+(b*c))"),
-    ("a / b - c", "5 ((a/b)-c)"),
-    ("a || b || c", "5 ((a||b)||c)"),
-    ("a && b && c", "5 ((a&&b)&&c)"),
-    ("a | b | c", "5 ((a|b)|c)"),
-    ("a ^ b ~^ c", "5 ((a^b)~^c)"),
-    ("a & b & c", "5 ((a&b)&c)"),
-    ("a == b != c", "5 ((a==b)!=c)"),
-    ("a < b >= c", "5 ((a<b)>=c)"),
-    ("a << b >> c", "5 ((a<<b)>>c)"),
-    ("a - b + c", "5 ((a-b)+c)"),
-    ("a * b / c % d", "7 (((a*b)/c)%d)"),
-    ("a ? b : c ? d : e", "9 (a?b:(c?d:e))"),
-    ("a ? b ? c : d : e", "9 (a?(b?c:d):e)"),
-    ("a || b ? c : d", "7 ((a||b)?c:d)"),
-    ("a ? b ;", "syntax 3"),
-    ("- a + ~ b", "5 ((-a)+(~b))"),
-    ("! & a", "3 (!(&a))"),
-    ("~& a", "2 (!(&a))"),
-    ("~| a", "2 (!(|a))"),
-    ("~^ a", "2 (!(^a))"),
-    ("^~ a", "2 (!(^a))"),
-    ("a ~& b", "1 a"),
-    ("a + + + b", "5 (a+b)"),
-    ("+ ( ( a ) )", "6 a"),
-    ("~ ;", "syntax 1"),
-    ("{ a , b }", "5 {a;b;}"),
-    ("{ a , b , }", "syntax 5"),
-    ("{ }", "syntax 1"),
-    ("{ 2 { a } }", "6 (2{a;})"),
-    ("{ a { b } }", "6 (a{b;})"),
-    ("{ 2 { a , b } }", "8 (2{a;b;})"),
-    ("{ 2 { a } ;", "syntax 5"),
-    ("{ a , 2 { b } }", "syntax 4"),
-    ("{ { a } , { b , c } }", "11 {{a;};{b;c;};}"),
-    ("$signed ( a )", "4 (sa)"),
-    ("$unsigned ( a + b )", "6 (u(a+b))"),
-    ("$signed a", "syntax 1"),
-    ("$other ( a )", "syntax 0"),
-    ("a [ 1 ]", "4 a[1]"),
-    ("a [ 3 : 0 ]", "6 a[3:0]"),
-    ("a [ i +: 4 ]", "6 a[i+:4]"),
-    ("a [ i -: 4 ]", "6 a[i-:4]"),
-    ("m [ 1 ] [ 2 ]", "7 m[1][2]"),
-    ("m [ 1 ] [ 2 ] [ 3 : 0 ]", "12 m[1][2][3:0]"),
-    ("( a ) [ 1 ]", "3 a"),
-    ("{ a } [ 1 ]", "3 {a;}"),
-    ("a [ b ? c : d ]", "8 a[(b?c:d)]"),
-    ("a [ 1 +: 2 : 3 ]", "syntax 5"),
-    ("\\a+b [ 1 ]", "4 a+b[1]"),
-    ("7", "1 7"),
-    ("4 'b1", "2 4'1"),
-    ("'sd12_3", "1 's123"),
-    ("4 'hfF", "2 4'15"),
-    ("4 'b1? ;", "2 4'2?1"),
-    ("8 'bz", "2 8'0?255"),
-    ("2 'b?01", "2 2'1"),
-    ("( 4 'b1? )", "syntax 2"),
-    ("+ 4 'b1?", "2 4"),
-];
-
-#[test]
-fn rows(rt: HostRuntime) -> Result<(), Fail> {
-    for (text, want) in ROWS.iter() {
-        let got = answer(rt.alloc(), text.as_bytes(), false)?;
-        assert!(rt; got.as_slice() == want.as_bytes(), "{text}");
-    }
-    Ok(())
-}
-
-const PATHS: [(&str, &str, &str); 8] = [
-    ("u0 . v [ 3 ] . w [ 1 ]", "1 u0", "11 u0.v[3].w[1]"),
-    ("v [ 3 ] . w", "4 v[3]", "6 v[3].w"),
-    ("v [ 3 ] + w", "6 (v[3]+w)", "6 (v[3]+w)"),
-    ("v [ a ] . w", "4 v[a]", "4 v[a]"),
-    ("v [ ( 3 ) ] . w", "6 v[3]", "6 v[3]"),
-    ("v [ 1 ] [ 3 ] . w", "7 v[1][3]", "7 v[1][3]"),
-    ("( v ) . w", "3 v", "3 v"),
-    ("v . 3", "1 v", "syntax 2"),
-];
-
-#[test]
-fn paths(rt: HostRuntime) -> Result<(), Fail> {
-    for (text, plain, with) in PATHS.iter() {
-        let got = answer(rt.alloc(), text.as_bytes(), false)?;
-        assert!(rt; got.as_slice() == plain.as_bytes(), "{text}");
-        let got = answer(rt.alloc(), text.as_bytes(), true)?;
-        assert!(rt; got.as_slice() == with.as_bytes(), "{text}");
-    }
-    Ok(())
-}
-
-/// The number of tokens that are read, or the refusal, of a part repeated before and a part repeated behind a middle.
-fn deep(
+fn accepted(
     alloc: Global,
-    paths: bool,
-    times: u32,
-    before: &[u8],
-    middle: &[u8],
-    behind: &[u8],
-) -> Result<Vec<u8>, Fail> {
-    let mut text = Vec::new(alloc);
-    for _ in 0..times {
-        text.extend_from_slice(before)?;
+    out: &mut Vec<u8>,
+    tree: Held<Expr>,
+    end: usize,
+    shown: bool,
+) -> Result<(), Fail> {
+    put(out, format!(in alloc; "{end}")?.as_str())?;
+    if shown {
+        put(out, " ")?;
+        show(alloc, out, tree.get())?;
     }
-    text.extend_from_slice(middle)?;
-    for _ in 0..times {
-        text.extend_from_slice(behind)?;
-    }
-    let Ok(tokens) = lex(alloc, text.as_slice()) else {
-        return Err(Fail::from("no tokens"));
-    };
-    let mut out = Vec::new(alloc);
-    match read_expr(alloc, &tokens, 0, paths) {
-        Ok((_, end)) => put(&mut out, format!(in alloc; "{}", end)?.as_str())?,
-        Err(SyntaxError::Syntax(k)) => put(&mut out, format!(in alloc; "syntax {}", k)?.as_str())?,
-        Err(SyntaxError::Depth(k)) => put(&mut out, format!(in alloc; "depth {}", k)?.as_str())?,
-        Err(SyntaxError::NoMemory) => put(&mut out, "no memory")?,
-    }
-    Ok(out)
+    Ok(())
 }
 
-const HEIGHTS: [(bool, u32, &str, &str, &str, &str); 21] = [
-    (false, 198, "~", "a", "", "199"),
-    (false, 199, "~", "a", "", "200"),
-    (false, 200, "~", "a", "", "depth 199"),
-    (false, 198, "", "a", "+a", "397"),
-    (false, 199, "", "a", "+a", "399"),
-    (false, 200, "", "a", "+a", "depth 399"),
-    (false, 198, "a[", "a", "]", "595"),
-    (false, 199, "a[", "a", "]", "598"),
-    (false, 200, "a[", "a", "]", "depth 399"),
-    (false, 199, "a?", "a", ":a", "797"),
-    (false, 200, "a?", "a", ":a", "depth 399"),
-    (true, 199, "~", "a", "", "200"),
-    (true, 200, "~", "a", "", "depth 201"),
-    (true, 199, "~", "a[1].a", "", "205"),
-    (true, 199, "~", "a[1]", "", "depth 203"),
-    (false, 199, "~", "a[1]", "", "depth 200"),
-    (true, 198, "~", "a[1]", "", "202"),
-    (true, 200, "~", "a[1].a", "", "depth 201"),
-    (false, 200000, "(", "a", ")", "400001"),
-    (false, 50000, "(", "a", "", "syntax 50001"),
-    (true, 50000, "+(", "a", ")", "150001"),
-];
+/// The answer stands before `@`.
+const ROWS: &str = r#"1 a@a ;
+syntax 2@a + ;
+syntax 0@
+syntax 0@;
+syntax 2@a +
+syntax 2@( a
+1 a@a )
+1 a@a b
+5 (a||(b&&c))@a || b && c
+5 ((a&&b)||c)@a && b || c
+5 (a&&(b|c))@a && b | c
+5 ((a|b)&&c)@a | b && c
+5 (a|(b^c))@a | b ^ c
+5 ((a^b)|c)@a ^ b | c
+5 (a^(b&c))@a ^ b & c
+5 ((a&b)~^c)@a & b ^~ c
+5 (a&(b==c))@a & b == c
+5 ((a!=b)&c)@a != b & c
+5 (a==(b<c))@a == b < c
+5 ((a<=b)!=c)@a <= b != c
+5 (a>(b<<c))@a > b << c
+5 ((a>>b)>=c)@a >> b >= c
+5 (a<<(b+c))@a <<< b + c
+5 ((a-b)>>>c)@a - b >>> c
+5 (a+(b*c))@a + b * c
+5 ((a/b)-c)@a / b - c
+5 ((a||b)||c)@a || b || c
+5 ((a&&b)&&c)@a && b && c
+5 ((a|b)|c)@a | b | c
+5 ((a^b)~^c)@a ^ b ~^ c
+5 ((a&b)&c)@a & b & c
+5 ((a==b)!=c)@a == b != c
+5 ((a<b)>=c)@a < b >= c
+5 ((a<<b)>>c)@a << b >> c
+5 ((a-b)+c)@a - b + c
+7 (((a*b)/c)%d)@a * b / c % d
+9 (a?b:(c?d:e))@a ? b : c ? d : e
+9 (a?(b?c:d):e)@a ? b ? c : d : e
+7 ((a||b)?c:d)@a || b ? c : d
+syntax 3@a ? b ;
+5 ((-a)+(~b))@- a + ~ b
+3 (!(&a))@! & a
+2 (!(&a))@~& a
+2 (!(|a))@~| a
+2 (!(^a))@~^ a
+2 (!(^a))@^~ a
+1 a@a ~& b
+5 (a+b)@a + + + b
+6 a@+ ( ( a ) )
+syntax 1@~ ;
+5 {a;b;}@{ a , b }
+syntax 5@{ a , b , }
+syntax 1@{ }
+6 (2{a;})@{ 2 { a } }
+6 (a{b;})@{ a { b } }
+8 (2{a;b;})@{ 2 { a , b } }
+syntax 5@{ 2 { a } ;
+syntax 4@{ a , 2 { b } }
+11 {{a;};{b;c;};}@{ { a } , { b , c } }
+4 (sa)@$signed ( a )
+6 (u(a+b))@$unsigned ( a + b )
+syntax 1@$signed a
+syntax 0@$other ( a )
+4 a[1]@a [ 1 ]
+6 a[3:0]@a [ 3 : 0 ]
+6 a[i+:4]@a [ i +: 4 ]
+6 a[i-:4]@a [ i -: 4 ]
+7 m[1][2]@m [ 1 ] [ 2 ]
+12 m[1][2][3:0]@m [ 1 ] [ 2 ] [ 3 : 0 ]
+3 a@( a ) [ 1 ]
+3 {a;}@{ a } [ 1 ]
+8 a[(b?c:d)]@a [ b ? c : d ]
+syntax 5@a [ 1 +: 2 : 3 ]
+4 a+b[1]@\a+b [ 1 ]
+1 7@7
+2 4'1@4 'b1
+1 's123@'sd12_3
+2 4'15@4 'hfF
+2 4'2?1@4 'b1? ;
+2 8'0?255@8 'bz
+2 2'1@2 'b?01
+syntax 2@( 4 'b1? )
+2 4@+ 4 'b1?
+1 u0@u0 . v [ 3 ] . w [ 1 ]
+4 v[3]@v [ 3 ] . w
+6 (v[3]+w)@v [ 3 ] + w
+4 v[a]@v [ a ] . w
+6 v[3]@v [ ( 3 ) ] . w
+7 v[1][3]@v [ 1 ] [ 3 ] . w
+3 v@( v ) . w
+1 v@v . 3"#;
+
+/// The same, where names may be paths.
+const PATHS: &str = r#"11 u0.v[3].w[1]@u0 . v [ 3 ] . w [ 1 ]
+6 v[3].w@v [ 3 ] . w
+6 (v[3]+w)@v [ 3 ] + w
+4 v[a]@v [ a ] . w
+6 v[3]@v [ ( 3 ) ] . w
+7 v[1][3]@v [ 1 ] [ 3 ] . w
+3 v@( v ) . w
+syntax 2@v . 3"#;
 
 #[test]
-fn heights(rt: HostRuntime) -> Result<(), Fail> {
-    for (paths, times, before, middle, behind, want) in HEIGHTS.iter() {
-        let got = deep(
-            rt.alloc(),
-            *paths,
-            *times,
-            before.as_bytes(),
-            middle.as_bytes(),
-            behind.as_bytes(),
-        )?;
-        assert!(rt; got.as_slice() == want.as_bytes(), "{times}");
+fn reads_expressions(rt: HostRuntime) -> Result<(), Fail> {
+    for (rows, paths) in [(ROWS, false), (PATHS, true)] {
+        for row in rows.lines() {
+            let (wanted, text) = row.split_once('@').ok_or("no answer")?;
+            let given = answer(rt.alloc(), text.as_bytes(), paths, true)?;
+            assert!(rt; given.as_slice() == wanted.as_bytes(), "{row}");
+        }
+    }
+    Ok(())
+}
+
+/// A text by its parts between `@`, of which the first and the third are repeated.
+fn deep(alloc: Global, times: u32, parts: &str) -> Result<String, Fail> {
+    let mut text = String::new(alloc);
+    for (at, part) in parts.split('@').enumerate() {
+        repeated(&mut text, part, if at % 2 == 0 { times } else { 1 })?;
+    }
+    Ok(text)
+}
+
+/// The number of tokens that are read, or the refusal, how often a text is nested, and its three parts.
+const HEIGHTS: &str = r#"199@198@~@a@
+200@199@~@a@
+depth 199@200@~@a@
+397@198@@a@+a
+399@199@@a@+a
+depth 399@200@@a@+a
+595@198@a[@a@]
+598@199@a[@a@]
+depth 399@200@a[@a@]
+797@199@a?@a@:a
+depth 399@200@a?@a@:a
+depth 200@199@~@a[1]@
+400001@200000@(@a@)
+syntax 50001@50000@(@a@"#;
+
+/// The same, where names may be paths.
+const PATH_HEIGHTS: &str = r#"200@199@~@a@
+depth 201@200@~@a@
+205@199@~@a[1].a@
+depth 203@199@~@a[1]@
+202@198@~@a[1]@
+depth 201@200@~@a[1].a@
+150001@50000@+(@a@)"#;
+
+#[test]
+fn limits_heights(rt: HostRuntime) -> Result<(), Fail> {
+    let alloc = rt.alloc();
+    for (rows, paths) in [(HEIGHTS, false), (PATH_HEIGHTS, true)] {
+        for row in rows.lines() {
+            let (wanted, rest) = row.split_once('@').ok_or("no answer")?;
+            let (times, parts) = rest.split_once('@').ok_or("no count")?;
+            let text = deep(alloc, times.parse::<u32>()?, parts)?;
+            let given = answer(alloc, text.as_bytes(), paths, false)?;
+            assert!(rt; given.as_slice() == wanted.as_bytes(), "{row}");
+        }
     }
     Ok(())
 }

@@ -1,5 +1,5 @@
 use Rattle.std.proofs.Common.{ℕ, ◌≡◌, ◌-◌, ◌<◌, ◌≤◌, length, subst, sym, ◌∙◌, arith}
-use Rattle.lv_contract.specs.Expressions.{IsNoExpression}
+use Rattle.lv_contract.specs.Expressions.{IsExpression, IsNoExpression}
 use Rattle.lv_contract.proofs.Expressions.{ended, failed, deep, free_text, expression}
 use Rattle.lv_contract.proofs.expression.whole.Goals as goal
 
@@ -28,7 +28,8 @@ returns-in-None c =
     let tokens = c.args.tokens.now.list in
     let h = c.in-Ok.ensures in
     let l : length tokens ≤ c.in-Ok.end = omega (arith, c.if-end-len.false, c.len.ensures) in
-    expression text tokens c.requires c.in-Ok.end _ (same c.in-Ok.end) l h.1.1.0 h.1.1.1 h.1.0 h.1.1.3 h.1.2 c.in-Ok.expr h.1.1.2 (sym c.free_place.ensures ∙ c.in-None.is)
+    subst (IsExpression text) (sym c.new.ensures)
+    (expression text tokens c.requires c.in-Ok.end _ (same c.in-Ok.end) l h.1.1.0 h.1.1.1 h.1.0 h.1.1.3 h.1.2 c.in-Ok.expr h.1.1.2 (sym c.free_place.ensures ∙ c.in-None.is))
 
 pub returns-in-Err-Syntax : goal.returns-in-Err-Syntax
 returns-in-Err-Syntax c =

@@ -15,4 +15,5 @@ items-returns t c = joined_end item_tokens c.args.list.now c.loop-x.x-index c.lo
 pub item-returns-in_ok-items-in-Generate : goal.item-returns-in_ok-items-in-Generate
 item-returns-in_ok-items-in-Generate t c =
     ok-same _ _ _ _ c.word-in-Generate-2.ensures
-    (generate_written c.args.x.now c.as_slice-in-Generate.result.now c.in-Generate.list c.args.paper.now _ _ c.in-Generate.is c.as_slice-in-Generate.ensures c.in_ok-word-in-Generate.ensures c.in_ok-items-in-Generate.ensures)
+    (generate_written c.args.x.now c.as_slice-in-Generate.result.now c.in-Generate.list c.args.paper.now _ _ c.in-Generate.is c.as_slice-in-Generate.ensures c.in_ok-word-in-Generate.ensures
+        c.in_ok-items-in-Generate.ensures)

@@ -9,6 +9,8 @@ returns-then-most-eq0 t c = digits-end _ _ _ _ c.if-most-eq0.true
 pub returns : goal.returns
 returns t c =
     elim c.if-n-base.branch [
-      | then-n-base+in_ok-digits w ↦ digits-before c.args.base c.args.most c.args.n c.args.bytes.now c.if-n-base.bytes c.push.new.self _ c.glyph.result (omega arith) (omega arith) (w.bytes-is ∙ w.in_ok-digits.ensures) c.glyph.ensures c.in_ok-push.ensures.ok refl
-      | else-n-base w ↦ digits-last c.args.base c.args.most c.args.n c.args.bytes.now c.if-n-base.bytes c.push.new.self _ c.glyph.result (omega arith) (omega arith) w.bytes-is c.glyph.ensures c.in_ok-push.ensures.ok refl
+      | then-n-base+in_ok-digits w ↦ digits-before c.args.base c.args.most c.args.n c.args.bytes.now c.if-n-base.bytes c.push.new.self _ c.glyph.result (omega arith) (omega arith)
+          (w.bytes-is ∙ w.in_ok-digits.ensures) c.glyph.ensures c.in_ok-push.ensures.ok refl
+      | else-n-base w ↦ digits-last c.args.base c.args.most c.args.n c.args.bytes.now c.if-n-base.bytes c.push.new.self _ c.glyph.result (omega arith)
+          (omega arith) w.bytes-is c.glyph.ensures c.in_ok-push.ensures.ok refl
     ]

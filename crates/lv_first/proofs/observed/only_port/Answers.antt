@@ -1,5 +1,5 @@
 use Rattle.std.proofs.Common.{sym, ◌∙◌}
-use Rattle.lv_first.proofs.WordLists.{one_of}
+use Rattle.lv_first.proofs.OneOf.{one_of}
 use Rattle.lv_first.proofs.observed.only_port.Goals as goal
 
 pub returns-in-len1 : goal.returns-in-len1

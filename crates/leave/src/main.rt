@@ -1,11 +1,13 @@
 //! A leakage contract verifier for processors.
 #![tactic(auto)]
 
-ghost use Rattle.std.specs.Prelude.{◌≡◌, ◌⊎◌, map, drop, string_bytes, IfOk, IfErr};
+ghost use Rattle.std.specs.Prelude.{◌≡◌, map, drop, string_bytes, IfOk};
+ghost use Rattle.leave.specs.Handed.{IsHanded};
 
 use lv_bits::{NoMemory, Text};
 use lv_io::{FsShelf, StdSink};
-use lv_run::{Words, run};
+use lv_run::run;
+use lv_words::{Words, no_words};
 use sqlite_items::Items;
 use std::alloc::Global;
 use std::env;
@@ -34,28 +36,35 @@ fn words_in(alloc: Global, args: &[String]) -> Result<Words, NoMemory>
     Ok(Words { list })
 }
 
-/// The words, or the status where they can't be had: 7 for want of memory, else 6. A list with a word that isn't UTF-8 is no
-/// command line: it is read as an empty one.
-fn words_of(rt: &HostRuntime) -> Result<Words, u8>
-    ensures { IfErr result (λ code. (code ≡ 6) ⊎ (code ≡ 7)) }
+/// The words that are handed to the run, or the status where there are none: 7 for want of memory, else 6. Where a word isn't UTF-8
+/// they are words that are refused.
+fn words_for(alloc: Global, answer: Result<Vec<String>, ErrorKind>) -> Result<Words, u8>
+    ensures { IsHanded answer result }
 {
-    match env::args(rt) {
-        Ok(args) => {
-            let args: Vec<String> = args.collect(rt.alloc()).map_err(|_| 7u8)?;
-            words_in(rt.alloc(), args.as_slice()).map_err(|_| 7u8)
-        }
-        Err(error) => match error.kind() {
-            ErrorKind::InvalidData => Ok(Words {
-                list: Items::new(rt.alloc()),
-            }),
-            ErrorKind::OutOfMemory => Err(7),
-            _ => Err(6),
+    match answer {
+        Ok(args) => match words_in(alloc, args.as_slice()) {
+            Ok(words) => Ok(words),
+            Err(NoMemory) => Err(7),
         },
+        Err(ErrorKind::InvalidData) => Ok(no_words(alloc)),
+        Err(ErrorKind::OutOfMemory) => Err(7),
+        Err(_) => Err(6),
+    }
+}
+
+/// What the system answers for the words.
+fn args_of(rt: &HostRuntime) -> Result<Vec<String>, ErrorKind> {
+    match env::args(rt) {
+        Ok(args) => match args.collect(rt.alloc()) {
+            Ok(args) => Ok(args),
+            Err(_) => Err(ErrorKind::OutOfMemory),
+        },
+        Err(error) => Err(error.kind()),
     }
 }
 
 fn main(rt: HostRuntime) -> ExitCode {
-    match words_of(&rt) {
+    match words_for(rt.alloc(), args_of(&rt)) {
         Ok(words) => {
             let mut shelf = FsShelf::new(&rt);
             let mut out = StdSink::new(&rt);

@@ -1,6 +1,7 @@
 use lv_bits::{Bytes, NoMemory, Text};
 use lv_io::{MemShelf, MemSink};
-use lv_run::{Words, run};
+use lv_run::run;
+use lv_words::{Asked, Words, asked};
 use sqlite_items::Items;
 use std::alloc::Global;
 use std::test::Fail;
@@ -227,6 +228,48 @@ fn rows_of_contracts(rt: HostRuntime) -> Result<(), Fail> {
     Ok(())
 }
 
+fn answers_design(
+    alloc: Global,
+    mode: &[u8],
+    files: &[u8],
+    design: &[u8],
+    text: &[u8],
+) -> Result<bool, NoMemory> {
+    let contract = lists(alloc, files, b"lookahead = 0")?;
+    gives(alloc, &[mode, b"a.toml"], &contract, Some(design), 3, text)
+}
+
+// A file has at most 4,194,304 bytes, and so have all files of a design with newlines between them; a file that is too long is told
+// before one behind it that is missing.
+#[test]
+fn rows_of_long_files(rt: HostRuntime) -> Result<(), Fail> {
+    let alloc = rt.alloc();
+    let long = vec![in alloc; b' '; 4_194_305]?;
+    let full = vec![in alloc; b' '; 4_194_304]?;
+    let one = b"\"t.v\"".as_slice();
+    let twice = b"\"t.v\", \"t.v\"".as_slice();
+    let before = b"\"t.v\", \"u.v\"".as_slice();
+    let rows: [(&[u8], &[u8], &[u8]); 4] = [
+        (one, &long, b"refused long t.v\n"),
+        (one, &full, b"refused syntax 0 4194304\n"),
+        (twice, &full, b"refused limit source 8388609\n"),
+        (before, &long, b"refused long t.v\n"),
+    ];
+    for (files, design, text) in rows {
+        for mode in [b"verify".as_slice(), b"print".as_slice()] {
+            assert!(rt; matches!(answers_design(alloc, mode, files, design, text), Ok(true)));
+        }
+    }
+    let verify = [b"verify".as_slice(), b"a.toml".as_slice()];
+    assert!(rt;
+        matches!(
+            gives(alloc, &verify, &long, None, 3, b"refused long a.toml\n"),
+            Ok(true)
+        )
+    );
+    Ok(())
+}
+
 // What is not of the form that is decided is printed.
 #[test]
 fn rows_of_forms(rt: HostRuntime) -> Result<(), Fail> {
@@ -365,27 +408,89 @@ fn heights(rt: HostRuntime) -> Result<(), Fail> {
     Ok(())
 }
 
+// Words that are no command line, and then modes that are not built.
+const REFUSED_WORDS: &[&[&[u8]]] = &[
+    &[],
+    &[b"verify"],
+    &[b"verify", b"a.toml", b"b.toml"],
+    &[b"frob", b"a.toml"],
+    &[b"verify", b"-a.toml"],
+    &[b"verify", b"a.toml", b"--frob"],
+    &[b"verify", b"a.toml", b"--out"],
+    &[b"verify", b"a.toml", b"--out", b"x", b"--out=x"],
+    &[b"print", b"a.toml", b"--out", b"x"],
+    &[b"sim", b"a.toml", b"--out", b"x"],
+    &[b"print"],
+    &[b"print", b"a.toml", b"\xff"],
+    &[b"--help"],
+    &[b"verify", b"-h"],
+    &[b"gen", b"0"],
+    &[b"gen", b"501"],
+    &[b"gen", b"01"],
+    &[b"verify", b"a.toml", b"--out", b"x"],
+    &[b"check", b"a.toml"],
+    &[b"sim", b"a.toml"],
+    &[b"gen", b"3"],
+];
+
 #[test]
 fn words_are_refused(rt: HostRuntime) -> Result<(), Fail> {
     let alloc = rt.alloc();
-    let rows: [&[&[u8]]; 8] = [
-        &[],
-        &[b"verify"],
-        &[b"frob", b"a.toml"],
-        &[b"sim", b"a.toml", b"--out", b"x"],
-        &[b"gen", b"0"],
-        &[b"verify", b"-a.toml"],
-        &[b"print"],
-        &[b"print", b"a.toml", b"--out", b"x"],
-    ];
-    for list in rows {
+    for list in REFUSED_WORDS {
         assert!(rt;
             matches!(
-                gives(alloc, list, CONTRACT, Some(DESIGN), 2, USAGE),
+                gives(alloc, *list, CONTRACT, Some(DESIGN), 2, USAGE),
                 Ok(true)
             )
         );
     }
+    Ok(())
+}
+
+// Behind `--` each word is one of MODE and FILE.
+#[test]
+fn words_are_taken(rt: HostRuntime) -> Result<(), Fail> {
+    let alloc = rt.alloc();
+    let rows: [&[&[u8]]; 3] = [
+        &[b"verify", b"a.toml"],
+        &[b"verify", b"--", b"a.toml"],
+        &[b"--", b"verify", b"a.toml"],
+    ];
+    for list in rows {
+        assert!(rt;
+            matches!(
+                gives(alloc, list, CONTRACT, Some(DESIGN), 0, ACCEPTED),
+                Ok(true)
+            )
+        );
+    }
+    Ok(())
+}
+
+// What the words ask for, as clap reads them.
+fn asks(alloc: Global, list: &[&[u8]], file: &[u8], out: &[u8]) -> Result<bool, NoMemory> {
+    let words = words_of(alloc, list)?;
+    match asked(alloc, &words)? {
+        Some(Asked::Verify(name, Some(text))) => Ok(name.bytes() == file && text.bytes() == out),
+        Some(Asked::Verify(name, None)) => Ok(name.bytes() == file && out.is_empty()),
+        _ => Ok(false),
+    }
+}
+
+#[test]
+fn words_ask(rt: HostRuntime) -> Result<(), Fail> {
+    let alloc = rt.alloc();
+    let rows: [(&[&[u8]], &[u8]); 4] = [
+        (&[b"verify", b"a.toml"], b""),
+        (&[b"verify", b"a.toml", b"--out", b"x"], b"x"),
+        (&[b"--out=x", b"verify", b"a.toml"], b"x"),
+        (&[b"verify", b"--out", b"x", b"--", b"a.toml"], b"x"),
+    ];
+    for (list, out) in rows {
+        assert!(rt; matches!(asks(alloc, list, b"a.toml", out), Ok(true)));
+    }
+    let gen = words_of(alloc, &[b"gen", b"500"])?;
+    assert!(rt; matches!(asked(alloc, &gen)?, Some(Asked::Gen(500))));
     Ok(())
 }
 

@@ -1,9 +1,3 @@
-pub mod FirstContract
-pub mod Formulas
-pub mod Problems
-pub mod FirstForm
-pub mod Signals
 pub mod Texts
-pub mod Steps
 pub mod Answers
-pub mod Printable
+pub mod Promises

@@ -2,22 +2,8 @@
 #![tactic(auto)]
 
 mod answer;
-mod build;
 mod decide;
-mod folded;
-mod formula;
-mod next;
-mod observed;
-mod prepare;
-mod problem;
-mod queries;
-mod signals;
-mod spelled;
-mod splitter;
-mod steps;
-mod verdict;
+mod told;
 mod whole_run;
-mod words;
 
 pub use whole_run::{Status, run};
-pub use words::Words;

@@ -39,7 +39,7 @@ all_texts words k xs past h = subst (AreTexts xs) (take_all k words past) h
 pub asked_as : (words : List (List ℕ)) (mode file : List ℕ) (out : Option (List ℕ)) (asked : Asked) → IsTaken words mode file out → IsAskedBy mode file out asked → IsAskedIn words asked
 asked_as words mode file out asked line asks = record { mode = mode; file = file; out = out; line = line; asks = asks }
 
-some_same : {A : Type 0} (x y : A) (o : Option A) → o ≡ Some x → o ≡ Some y → x ≡ y
+pub some_same : {A : Type 0} (x y : A) (o : Option A) → o ≡ Some x → o ≡ Some y → x ≡ y
 some_same x y o e f = cc
 
 pub asked_line : (words : List (List ℕ)) (mode file : List ℕ) (out : Option (List ℕ)) → IsTaken words mode file out → (asked : Asked) → IsAskedIn words asked → IsAskedBy mode file out asked

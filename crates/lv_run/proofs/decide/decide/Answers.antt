@@ -1,6 +1,12 @@
-use Rattle.std.proofs.Common.{inl, inr}
-use Rattle.lv_run.specs.Answers.{usage}
+use Rattle.std.proofs.Common.{ap, ◌∙◌}
+use Rattle.std.specs.Prelude.{Ok}
+use Rattle.lv_run.specs.Answers.{usage, no_memory}
+use Rattle.lv_run.proofs.Unbuilt.{nothing_asked}
 use Rattle.lv_run.proofs.decide.decide.Goals as goal
 
-pub returns-in-None-clause-answer : goal.returns-in-None-clause-answer
-returns-in-None-clause-answer g c = usage (λ line. elim line.asks [ inl v ↦ c.in_default.ensures line.file v | inr p ↦ c.in-None.ensures line.file p ])
+pub returns-in-Err-clause-answer : goal.returns-in-Err-clause-answer
+returns-in-Err-clause-answer g c = no_memory
+
+pub returns-in-Ok-None-clause-answer : goal.returns-in-Ok-None-clause-answer
+returns-in-Ok-None-clause-answer g c =
+    usage (λ line. nothing_asked c.args.words.now.list c.asked.result (c.in-Ok-None.is ∙ ap Ok c.in-Ok-None.field-0-is) c.asked.ensures line)

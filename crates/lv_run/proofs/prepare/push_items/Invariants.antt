@@ -1,6 +1,0 @@
-use Rattle.std.proofs.Common.{◌≡◌, ◌++◌, take}
-use Rattle.lv_run.specs.FirstForm.{register_items}
-use Rattle.lv_run.proofs.prepare.push_items.Given as goal
-
-abbrev pub invariant-loop-item : goal.invariant-loop-item
-invariant-loop-item l = l.texts ≡ l.initial.texts ++ register_items (take l.item-index l.items)

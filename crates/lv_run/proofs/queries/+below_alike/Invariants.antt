@@ -1,4 +1,0 @@
-use Rattle.lv_run.proofs.queries.+below_alike.Given as goal
-
-abbrev pub decreases-below_alike : goal.decreases-below_alike
-decreases-below_alike l = l.count

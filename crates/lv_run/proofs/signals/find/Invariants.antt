@@ -1,6 +1,0 @@
-use Rattle.std.proofs.Common.{◌≡◌, false, take}
-use Rattle.lv_run.specs.FirstForm.{is_in}
-use Rattle.lv_run.proofs.signals.find.Given as goal
-
-abbrev pub invariant-loop-k : goal.invariant-loop-k
-invariant-loop-k l = is_in (take l.k l.names) l.name ≡ false

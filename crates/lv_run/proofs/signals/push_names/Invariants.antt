@@ -1,6 +1,0 @@
-use Rattle.std.proofs.Common.{◌≡◌, ◌++◌, take}
-use Rattle.lv_run.specs.FirstForm.{ident_names}
-use Rattle.lv_run.proofs.signals.push_names.Given as goal
-
-abbrev pub invariant-loop-name : goal.invariant-loop-name
-invariant-loop-name l = l.texts ≡ l.initial.texts ++ ident_names (take l.name-index l.names)

@@ -1,6 +1,0 @@
-use Rattle.std.proofs.Common.{take}
-use Rattle.lv_run.proofs.Files.{Joined}
-use Rattle.lv_run.proofs.steps.join.Given as goal
-
-abbrev pub invariant-loop-part : goal.invariant-loop-part
-invariant-loop-part l = Joined (take l.part-index l.parts) l.text.items l.first

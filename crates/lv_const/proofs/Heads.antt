@@ -54,11 +54,13 @@ module _ (names : Names) where
   head-Cat es = ap (λ w. head_of w.shown.places) (walk-Cat names es) ∙ ap head_of (shown-places (map (walk names) es))
 
   pub head-Rep : (n : Expr) (es : List Expr) → head_of (walk names (e.Rep n es)).shown.places ≡ either (head_of (walk names n).shown.places) (head_of (joined_places (map (walk names) es)))
-  head-Rep n es = ap (λ w. head_of w.shown.places) (walk-Rep names n es) ∙ (head-both (walk names n).shown.places _ ∙ ap (λ ps. either (head_of (walk names n).shown.places) (head_of ps)) (shown-places (map (walk names) es)))
+  head-Rep n es = ap (λ w. head_of w.shown.places) (walk-Rep names n es) ∙
+      (head-both (walk names n).shown.places _ ∙ ap (λ ps. either (head_of (walk names n).shown.places) (head_of ps)) (shown-places (map (walk names) es)))
 
 -- the list from a place on
 pub places-here : (names : Names) (es : List Expr) (i : ℕ) (x : Expr) → i < length es → get_or es i x ≡ x →
     head_of (joined_places (map (walk names) (drop i es))) ≡ either (head_of (walk names x).shown.places) (head_of (joined_places (map (walk names) (drop (i + 1) es))))
-places-here names es i x h e = ap (λ ds. head_of (joined_places (map (walk names) ds))) (drop_at es i x h e) ∙ head-both (walk names x).shown.places (joined_places (map (walk names) (drop (i + 1) es)))
+places-here names es i x h e = ap (λ ds. head_of (joined_places (map (walk names) ds))) (drop_at es i x h e) ∙
+    head-both (walk names x).shown.places (joined_places (map (walk names) (drop (i + 1) es)))
 
 pub ruleset head_rules = (head-Lit, head-Name, head-Un, head-Cast, head-Bin, head-Div, head-Rem, head-Cond, head-Cat, head-Rep)

@@ -11,8 +11,11 @@ snoc es e name = ap (λ xs. value_of_entry (find (λ x. bytes_eq x.name name) xs
 
 pub latest_found : (es : List Entry) (at : ℕ) (e : Entry) (name : Name) → at < length es → get_or es at e ≡ e → bytes_eq e.name name ≡ true → value_in (take (at + 1) es) name ≡ e.value
 latest_found es at e name h is t =
-    ap (λ xs. value_in xs name) (take_more es at e h) ∙ (ap (λ x. value_in (take at es ++ x ∷ []) name) is ∙ (snoc (take at es) e name ∙ ap (λ b. value_of_entry (cond b (Some e) (find (λ x. bytes_eq x.name name) (reverse (take at es))))) t))
+    ap (λ xs. value_in xs name) (take_more es at e h) ∙ (ap (λ x. value_in (take at es ++ x ∷ []) name) is ∙
+    (snoc (take at es) e name ∙ ap (λ b. value_of_entry (cond b (Some e) (find (λ x. bytes_eq x.name name) (reverse (take at es))))) t))
 
-pub latest_before : (es : List Entry) (at : ℕ) (e : Entry) (name : Name) → at < length es → get_or es at e ≡ e → bytes_eq e.name name ≡ false → value_in (take (at + 1) es) name ≡ value_in (take at es) name
+pub latest_before : (es : List Entry) (at : ℕ) (e : Entry) (name : Name) → at < length es → get_or es at e ≡ e → bytes_eq e.name name ≡ false →
+    value_in (take (at + 1) es) name ≡ value_in (take at es) name
 latest_before es at e name h is t =
-    ap (λ xs. value_in xs name) (take_more es at e h) ∙ (ap (λ x. value_in (take at es ++ x ∷ []) name) is ∙ (snoc (take at es) e name ∙ ap (λ b. value_of_entry (cond b (Some e) (find (λ x. bytes_eq x.name name) (reverse (take at es))))) t))
+    ap (λ xs. value_in xs name) (take_more es at e h) ∙ (ap (λ x. value_in (take at es ++ x ∷ []) name) is ∙
+    (snoc (take at es) e name ∙ ap (λ b. value_of_entry (cond b (Some e) (find (λ x. bytes_eq x.name name) (reverse (take at es))))) t))

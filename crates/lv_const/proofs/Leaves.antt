@@ -84,7 +84,8 @@ count-positive true w a = elim (split (nat_lt a (2 ^ (w - 1)))) [
 -- ---- literals
 
 module _ (names : Names) (joined : Bool) where
-  pub lit-right : (l : Literal) → is_width (size_of l.size) ≡ true → is_literal_fault (read_role joined) l ≡ false → HasOwn (walk_step names (Expr-F.Lit l)) joined (record { width = size_of l.size; signed = l.signed })
+  pub lit-right : (l : Literal) → is_width (size_of l.size) ≡ true → is_literal_fault (read_role joined) l ≡ false →
+      HasOwn (walk_step names (Expr-F.Lit l)) joined (record { width = size_of l.size; signed = l.signed })
   lit-right l h k = record {
     width = refl;
     signed = refl;
@@ -95,7 +96,10 @@ module _ (names : Names) (joined : Bool) where
   }
 
   pub lit-wrong : (l : Literal) → (is_width (size_of l.size) && not (is_literal_fault (read_role joined) l)) ≡ false → HasNoOwn (walk_step names (Expr-F.Lit l)) joined (x.Range l.place)
-  lit-wrong l h = record { told = λ fixed W T. told-range (site_of names (Expr-F.Lit l) (read_role joined) fixed W T) [] (wrong-or (is_width (size_of l.size)) (is_literal_fault (read_role joined) l) h) }
+  lit-wrong l h = record {
+    told = λ fixed W T. told-range (site_of names (Expr-F.Lit l) (read_role joined) fixed W T) []
+        (wrong-or (is_width (size_of l.size)) (is_literal_fault (read_role joined) l) h);
+  }
 
   lit : (l : Literal) → IsOwn (walk_step names (Expr-F.Lit l)) joined (literal_own l joined)
   lit l = elim (split (is_width (size_of l.size) && not (is_literal_fault (read_role joined) l))) [
@@ -115,7 +119,8 @@ mod_one : (a : ℕ) → a % 2 ^ 0 ≡ 0
 mod_one a = omega (arith, mod_below a 1 (lit< tt))
 
 next-bit : (n a : ℕ) → a % 2 ^ n + a / 2 ^ n % 2 * 2 ^ n ≡ a % 2 ^ suc n
-next-bit n a = let e : 1 + n ≡ suc n = omega arith in let h : a % 2 ^ suc n ≡ (a / 2 ^ n % 2) * 2 ^ n + a % 2 ^ n = subst (λ k. a % 2 ^ k ≡ (a / 2 ^ n % 2) * 2 ^ n + a % 2 ^ n) e (mod-pow-add a 1 n) in omega (arith, h)
+next-bit n a = let e : 1 + n ≡ suc n = omega arith in let h : a % 2 ^ suc n ≡ (a / 2 ^ n % 2) * 2 ^ n + a % 2 ^ n =
+    subst (λ k. a % 2 ^ k ≡ (a / 2 ^ n % 2) * 2 ^ n + a % 2 ^ n) e (mod-pow-add a 1 n) in omega (arith, h)
 
 pub length-all_bits : (n : ℕ) → length (all_bits n) ≡ n
 length-all_bits zero = refl
@@ -124,11 +129,13 @@ length-all_bits (suc n) = length-append (all_bits n) (Some n ∷ []) ∙ omega (
 read-append : (a : ℕ) (ks : List (Option ℕ)) (k : ℕ) → read_bits a (ks ++ Some k ∷ []) ≡ read_bits a ks + a / 2 ^ k % 2 * 2 ^ length ks
 read-append a [] k = omega arith
 read-append a (None ∷ ks) k = ap (λ n. 2 * n) (read-append a ks k) ∙ twice-more (read_bits a ks) (a / 2 ^ k % 2) (length ks)
-read-append a (Some j ∷ ks) k = ap (λ n. a / 2 ^ j % 2 + 2 * n) (read-append a ks k) ∙ (ap (λ n. a / 2 ^ j % 2 + n) (twice-more (read_bits a ks) (a / 2 ^ k % 2) (length ks)) ∙ sym (add_assoc (a / 2 ^ j % 2) (2 * read_bits a ks) (a / 2 ^ k % 2 * 2 ^ suc (length ks))))
+read-append a (Some j ∷ ks) k = ap (λ n. a / 2 ^ j % 2 + 2 * n) (read-append a ks k) ∙
+    (ap (λ n. a / 2 ^ j % 2 + n) (twice-more (read_bits a ks) (a / 2 ^ k % 2) (length ks)) ∙ sym (add_assoc (a / 2 ^ j % 2) (2 * read_bits a ks) (a / 2 ^ k % 2 * 2 ^ suc (length ks))))
 
 read-all : (n a : ℕ) → read_bits a (all_bits n) ≡ a % 2 ^ n
 read-all zero a = sym (mod_one a)
-read-all (suc n) a = read-append a (all_bits n) n ∙ (ap (λ k. k + a / 2 ^ n % 2 * 2 ^ length (all_bits n)) (read-all n a) ∙ (ap (λ k. a % 2 ^ n + a / 2 ^ n % 2 * 2 ^ k) (length-all_bits n) ∙ next-bit n a))
+read-all (suc n) a = read-append a (all_bits n) n ∙ (ap (λ k. k + a / 2 ^ n % 2 * 2 ^ length (all_bits n)) (read-all n a) ∙
+    (ap (λ k. a % 2 ^ n + a / 2 ^ n % 2 * 2 ^ k) (length-all_bits n) ∙ next-bit n a))
 
 pub bare-value : (T : Bool) (left right w W a : ℕ) → span left right ≡ w → a < 2 ^ w → extended T w W a ≡ extended T (length (all_bits (span left right))) W (read_bits a (all_bits (span left right)))
 bare-value T left right w W a e fits =
@@ -140,14 +147,16 @@ length-rising from zero = refl
 length-rising from (suc n) = ap suc (length-rising (from +ℤ pos 1) n)
 
 module _ (names : Names) (joined : Bool) (path : Path) (c : Const) (known : names path ≡ Some (constant_of path.name c)) where
-  pub bare : 1 ≤ width_of (constant_of path.name c) → width_of (constant_of path.name c) ≤ 128 → HasOwn (walk_step names (Expr-F.Name path [])) joined (record { width = width_of (constant_of path.name c); signed = c.signed })
+  pub bare : 1 ≤ width_of (constant_of path.name c) → width_of (constant_of path.name c) ≤ 128 →
+      HasOwn (walk_step names (Expr-F.Name path [])) joined (record { width = width_of (constant_of path.name c); signed = c.signed })
   bare some most = record {
     width = rw known (sym (length-all_bits (width_of (constant_of path.name c))));
     signed = rw known refl;
     some = some;
     most = most;
     constant = rw known refl;
-    sound = λ fixed W T. sound-node (site_of names (Expr-F.Name path []) (read_role joined) fixed W T) [] (rw (known, length-all_bits (width_of (constant_of path.name c)), width_in (width_of (constant_of path.name c)) some most) refl) sound-none;
+    sound = λ fixed W T. sound-node (site_of names (Expr-F.Name path []) (read_role joined) fixed W T) []
+        (rw (known, length-all_bits (width_of (constant_of path.name c)), width_in (width_of (constant_of path.name c)) some most) refl) sound-none;
   }
 
 module _ (names : Names) (path : Path) (ss : List WalkStep) (role : Role) (fixed : Option ℕ) (W : ℕ) (T : Bool) where
@@ -161,7 +170,8 @@ own-none names joined path ss h = record { told = λ fixed W T. unknown names pa
 
 pub shown-widths : (ws : List Walk) → widths (meanings (map (λ r. r.reading) (map (λ w. w.shown) ws))) ≡ total_width ws
 shown-widths [] = refl
-shown-widths (w ∷ ws) = sum_by-cons (λ (k : ℕ). k) w.shown.reading.meaning.width (map (λ m. m.width) (meanings (map (λ r. r.reading) (map (λ v. v.shown) ws)))) ∙ ap (λ n. w.shown.reading.meaning.width + n) (shown-widths ws)
+shown-widths (w ∷ ws) = sum_by-cons (λ (k : ℕ). k) w.shown.reading.meaning.width (map (λ m. m.width) (meanings (map (λ r. r.reading) (map (λ v. v.shown) ws)))) ∙
+    ap (λ n. w.shown.reading.meaning.width + n) (shown-widths ws)
 
 shown-constant : (ws : List Walk) → list_all (λ r. r.constant) (map (λ r. r.reading) (map (λ w. w.shown) ws)) ≡ list_all (λ w. w.shown.reading.constant) ws
 shown-constant [] = refl
@@ -170,10 +180,12 @@ shown-constant (w ∷ ws) = ap (λ b. w.shown.reading.constant && b) (shown-cons
 module _ (names : Names) (joined : Bool) where
   pub cat-right : (ws : List Walk) (place total : ℕ) → HaveWidths ws total → is_width total ≡ true → HasOwn (walk_step names (Expr-F.Cat ws)) joined (record { width = total; signed = false })
   cat-right ws place total h k =
-      has names (Expr-F.Cat ws) joined (record { width = total; signed = false }) refl (h.width ∙ sym (shown-widths ws)) refl (is-width_some total k) (is-width_most total k) (shown-constant ws ∙ h.constant)
+      has names (Expr-F.Cat ws) joined (record { width = total; signed = false }) refl (h.width ∙ sym (shown-widths ws)) refl (is-width_some total k) (is-width_most total k)
+      (shown-constant ws ∙ h.constant)
       (λ fixed W T. rw (joins joined) (h.sound fixed))
 
-  cat-wide : (ws : List Walk) (total : ℕ) → HaveWidths ws total → is_width total ≡ false → HasNoOwn (walk_step names (Expr-F.Cat ws)) joined (x.Range (first_place (walk_step names (Expr-F.Cat ws)).shown))
+  cat-wide : (ws : List Walk) (total : ℕ) → HaveWidths ws total → is_width total ≡ false →
+      HasNoOwn (walk_step names (Expr-F.Cat ws)) joined (x.Range (first_place (walk_step names (Expr-F.Cat ws)).shown))
   cat-wide ws total h k =
       let e : is_width (widths (meanings (map (λ r. r.reading) (map (λ w. w.shown) ws)))) ≡ false = ap is_width (shown-widths ws ∙ sym h.width) ∙ k in
       record { told = λ fixed W T. told-range (site_of names (Expr-F.Cat ws) (read_role joined) fixed W T) (below_sites (Expr-F.Cat ws) (read_role joined) fixed W T) (rw e refl) }
@@ -185,7 +197,8 @@ module _ (names : Names) (joined : Bool) where
     | inr k ↦ rw k (record { right = tt; wrong = cat-wide ws total h.right k })
   ]
 
-  pub own-Cat : (es : List Expr) (r : Result ℕ ConstError) (place : ℕ) → place ≡ first_place (walk names (e.Cat es)).shown → AreWidths (map (walk names) es) r → IsOwn (walk names (e.Cat es)) joined (joined_own place r)
+  pub own-Cat : (es : List Expr) (r : Result ℕ ConstError) (place : ℕ) → place ≡ first_place (walk names (e.Cat es)).shown → AreWidths (map (walk names) es) r →
+      IsOwn (walk names (e.Cat es)) joined (joined_own place r)
   own-Cat es r place at h = subst (λ q. IsOwn (walk names (e.Cat es)) joined (joined_own q r)) (sym at)
       (subst (λ z. IsOwn z joined (joined_own (first_place z.shown) r)) (sym (walk-Cat names es)) (cat (map (walk names) es) r h))
 
@@ -232,7 +245,11 @@ module _ (names : Names) (joined : Bool) where
 
   rep : (n : Walk) (ws : List Walk) (r : Result Full ConstError) (q : Result ℕ ConstError) → IsFull n false r → AreWidths ws q →
       IsOwn (walk_step names (Expr-F.Rep n ws)) joined (repeated_own (first_place (walk_step names (Expr-F.Rep n ws)).shown) r q)
-  rep n ws (Err x) q h g = record { right = tt; wrong = hasnt names (Expr-F.Rep n ws) joined x (λ fixed W T. told-first (fixed_sites n) (joined_sites fixed ws) x (h.wrong.told (Some (first_place n.shown)))) }
+  rep n ws (Err x) q h g = record {
+    right = tt;
+    wrong = hasnt names (Expr-F.Rep n ws) joined x
+        (λ fixed W T. told-first (fixed_sites n) (joined_sites fixed ws) x (h.wrong.told (Some (first_place n.shown))));
+  }
   rep n ws (Ok f) (Err x) h g = record { right = tt; wrong = hasnt names (Expr-F.Rep n ws) joined x (λ fixed W T. told-second (fixed_sites n) (joined_sites fixed ws) x (g.wrong.told fixed)) }
   rep n ws (Ok f) (Ok total) h g = elim (split (is_count f)) [
     | inl c ↦ elim (split (is_width (f.word.value * total))) [

@@ -53,13 +53,21 @@ widths-more ws w total o h k = record {
 -- one of them, where it stands
 pub widths-wrong : (ws : List Walk) (i : ℕ) (w : Walk) (x : ConstError) → i < length ws → get_or ws i w ≡ w → HasNoOwn w true x → HaveNoWidths ws x
 widths-wrong [] i w x h e k = absurd (omega (arith, h))
-widths-wrong (v ∷ ws) zero w x h e k = record { told = λ fixed. told-first _ _ x (subst (λ u. Told (own_sites Joined fixed u) x) (sym e) (k.told fixed w.shown.reading.meaning.width w.shown.reading.meaning.signed)) }
+widths-wrong (v ∷ ws) zero w x h e k = record {
+  told = λ fixed. told-first _ _ x
+      (subst (λ u. Told (own_sites Joined fixed u) x) (sym e) (k.told fixed w.shown.reading.meaning.width w.shown.reading.meaning.signed));
+}
 widths-wrong (v ∷ ws) (suc i) w x h e k = let r : HaveNoWidths ws x = widths-wrong ws i w x (omega (arith, h)) e k in record { told = λ fixed. told-second _ _ x (r.told fixed) }
 
 pub widths-wrong_at : (names : Names) (es : List Expr) (i : ℕ) (z : Expr) (y : ConstError) → i < length es → get_or es i z ≡ z → HasNoOwn (walk names z) true y → HaveNoWidths (map (walk names) es) y
 widths-wrong_at names [] i z y h e k = absurd (omega (arith, h))
-widths-wrong_at names (v ∷ es) zero z y h e k = record { told = λ fixed. told-first _ _ y (subst (λ u. Told (own_sites Joined fixed (walk names u)) y) (sym e) (k.told fixed (walk names z).shown.reading.meaning.width (walk names z).shown.reading.meaning.signed)) }
-widths-wrong_at names (v ∷ es) (suc i) z y h e k = let r : HaveNoWidths (map (walk names) es) y = widths-wrong_at names es i z y (omega (arith, h)) e k in record { told = λ fixed. told-second _ _ y (r.told fixed) }
+widths-wrong_at names (v ∷ es) zero z y h e k = record {
+  told =
+      λ fixed. told-first _ _ y (subst (λ u. Told (own_sites Joined fixed (walk names u)) y) (sym e)
+      (k.told fixed (walk names z).shown.reading.meaning.width (walk names z).shown.reading.meaning.signed));
+}
+widths-wrong_at names (v ∷ es) (suc i) z y h e k = let r : HaveNoWidths (map (walk names) es) y =
+    widths-wrong_at names es i z y (omega (arith, h)) e k in record { told = λ fixed. told-second _ _ y (r.told fixed) }
 
 -- ---- their words in one
 
@@ -140,10 +148,12 @@ not-both : (a : Bits) (b : ConstError) (q : Result Bits ConstError) → q ≡ Ok
 not-both a b q h k = cc
 
 -- one more
-pub so-far_more : (ws : List Walk) (w : Walk) (place : ℕ) (joint : Option Bits) (r : Valued) (word : Bits) → IsSoFar ws joint → IsReached w true alone r → appended place joint r ≡ Ok word → IsSoFar (ws ++ w ∷ []) (Some word)
+pub so-far_more : (ws : List Walk) (w : Walk) (place : ℕ) (joint : Option Bits) (r : Valued) (word : Bits) → IsSoFar ws joint → IsReached w true alone r →
+    appended place joint r ≡ Ok word → IsSoFar (ws ++ w ∷ []) (Some word)
 so-far_more ws w place joint (Err y) word h g e = absurd (not-both word y (Err y) e refl)
 so-far_more ws w place None (Ok f) word (first n) g e =
-    subst (λ u. IsSoFar (ws ++ w ∷ []) (Some u)) (is-word f.word word (Ok f.word) refl e) (subst (λ us. IsSoFar (us ++ w ∷ []) (Some f.word)) (sym n) (more (joint-one w f (full-alone w true f g.right))))
+    subst (λ u. IsSoFar (ws ++ w ∷ []) (Some u)) (is-word f.word word (Ok f.word) refl e)
+    (subst (λ us. IsSoFar (us ++ w ∷ []) (Some f.word)) (sym n) (more (joint-one w f (full-alone w true f g.right))))
 so-far_more ws w place (Some high) (Ok f) word (more j) g e = elim (split (nat_le (high.width + f.word.width) 128)) [
   | inl k ↦ subst (λ u. IsSoFar (ws ++ w ∷ []) (Some u)) (is-word _ word (Ok _) refl (rw k at e)) (more (joint-more ws w high f (le-true _ _ k) j (full-alone w true f g.right)))
   | inr k ↦ absurd (not-both word (x.Range place) (Err (x.Range place)) (rw k at e) refl)
@@ -169,7 +179,8 @@ so-far_wrong ws us w place (Some high) (Ok f) y (more j) g e t = elim (split (na
 
 -- ---- by places
 
-pub parted : (names : Names) (es : List Expr) (i : ℕ) (z : Expr) → i < length es → get_or es i z ≡ z → map (walk names) es ≡ map (walk names) (take i es) ++ walk names z ∷ map (walk names) (drop (i + 1) es)
+pub parted : (names : Names) (es : List Expr) (i : ℕ) (z : Expr) → i < length es → get_or es i z ≡ z →
+    map (walk names) es ≡ map (walk names) (take i es) ++ walk names z ∷ map (walk names) (drop (i + 1) es)
 parted names [] i z h e = absurd (omega (arith, h))
 parted names (y ∷ es) zero z h e = ap (λ u. walk names u ∷ map (walk names) es) e
 parted names (y ∷ es) (suc i) z h e =

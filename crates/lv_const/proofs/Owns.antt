@@ -51,7 +51,8 @@ module _ (names : Names) (x : Expr-F Walk WalkStep) (joined : Bool) where
     some = some;
     most = most;
     constant = constant;
-    sound = λ fixed W T. sound-node (site_of names x (read_role joined) fixed W T) (below_sites x (read_role joined) fixed W T) (plain-fits (site_of names x (read_role joined) fixed W T) p (ap is_width (sym width) ∙ width_in o.width some most)) (sound fixed W T);
+    sound = λ fixed W T. sound-node (site_of names x (read_role joined) fixed W T) (below_sites x (read_role joined) fixed W T)
+        (plain-fits (site_of names x (read_role joined) fixed W T) p (ap is_width (sym width) ∙ width_in o.width some most)) (sound fixed W T);
   }
 
   pub hasnt : (e : ConstError) → ((fixed : Option ℕ) (W : ℕ) (T : Bool) → Told (below_sites x (read_role joined) fixed W T) e) → HasNoOwn (walk_step names x) joined e
@@ -113,7 +114,8 @@ module _ (names : Names) (joined : Bool) where
       has names (Expr-F.Bin op a b) joined o refl (rw (k, j) h.width) (rw (k, j) h.signed) h.some h.most (two-true _ _ h.constant g.constant)
       (λ fixed W T. rw (k, j) (two-sound a b o p h g fixed W T (width_at b) (signed_at b)))
 
-  pub bin-arithmetic : (op : Op) (a b : Walk) (o p : Own) → keeps_width op ≡ true → is_apart op ≡ false → HasOwn a false o → HasOwn b false p → HasOwn (walk_step names (Expr-F.Bin op a b)) joined (greater o p)
+  pub bin-arithmetic : (op : Op) (a b : Walk) (o p : Own) → keeps_width op ≡ true → is_apart op ≡ false → HasOwn a false o → HasOwn b false p →
+      HasOwn (walk_step names (Expr-F.Bin op a b)) joined (greater o p)
   bin-arithmetic op a b o p k j h g =
       has names (Expr-F.Bin op a b) joined (greater o p) refl (rw (k, j) (spread-width a b o p h g)) (rw (k, j) (spread-signed a b o p h g)) (spread-some a b o p h g) (spread-most a b o p h g)
       (two-true _ _ h.constant g.constant) (λ fixed W T. rw (k, j) (two-sound a b o p h g fixed W T W T))
@@ -156,7 +158,11 @@ module _ (names : Names) (joined : Bool) where
 
   bin : (op : Op) (a b : Walk) (r q : Owned) → IsOwn a false r → IsOwn b false q → IsOwn (walk_step names (Expr-F.Bin op a b)) joined (binary_own op r q)
   bin op a b (Err x) q h g = record { right = tt; wrong = hasnt names (Expr-F.Bin op a b) joined x (λ fixed W T. bin-told op a b x fixed W T (λ V S U R. told-first _ _ x (h.wrong.told fixed V S))) }
-  bin op a b (Ok o) (Err x) h g = record { right = tt; wrong = hasnt names (Expr-F.Bin op a b) joined x (λ fixed W T. bin-told op a b x fixed W T (λ V S U R. told-second _ _ x (g.wrong.told fixed U R))) }
+  bin op a b (Ok o) (Err x) h g = record {
+    right = tt;
+    wrong =
+        hasnt names (Expr-F.Bin op a b) joined x (λ fixed W T. bin-told op a b x fixed W T (λ V S U R. told-second _ _ x (g.wrong.told fixed U R)));
+  }
   bin op a b (Ok o) (Ok p) h g = record { right = bin-right op a b o p h.right g.right; wrong = tt }
 
   pub own-Bin : (op : Op) (a b : Expr) (r q : Owned) → IsOwn (walk names a) false r → IsOwn (walk names b) false q → IsOwn (walk names (e.Bin op a b)) joined (binary_own op r q)
@@ -195,16 +201,22 @@ module _ (names : Names) (joined : Bool) where
       (λ fixed W T. sound-both _ _ (sound-both _ _ (f.sound fixed (width_at c) (signed_at c)) (h.sound fixed W T)) (g.sound fixed W T))
 
   choose : (c a b : Walk) (s r q : Owned) → IsOwn c false s → IsOwn a false r → IsOwn b false q → IsOwn (walk_step names (Expr-F.Cond c a b)) joined (chosen_own s r q)
-  choose c a b (Err x) r q f h g = record { right = tt; wrong = hasnt names (Expr-F.Cond c a b) joined x (λ fixed W T. told-first _ _ x (told-first _ _ x (f.wrong.told fixed (width_at c) (signed_at c)))) }
+  choose c a b (Err x) r q f h g = record {
+    right = tt;
+    wrong =
+        hasnt names (Expr-F.Cond c a b) joined x (λ fixed W T. told-first _ _ x (told-first _ _ x (f.wrong.told fixed (width_at c) (signed_at c))));
+  }
   choose c a b (Ok l) (Err x) q f h g = record { right = tt; wrong = hasnt names (Expr-F.Cond c a b) joined x (λ fixed W T. told-first _ _ x (told-second _ _ x (h.wrong.told fixed W T))) }
   choose c a b (Ok l) (Ok o) (Err x) f h g = record { right = tt; wrong = hasnt names (Expr-F.Cond c a b) joined x (λ fixed W T. told-second _ _ x (g.wrong.told fixed W T)) }
   choose c a b (Ok l) (Ok o) (Ok p) f h g = record { right = cond-right c a b l o p f.right h.right g.right; wrong = tt }
 
-  pub own-Cond : (c a b : Expr) (s r q : Owned) → IsOwn (walk names c) false s → IsOwn (walk names a) false r → IsOwn (walk names b) false q → IsOwn (walk names (e.Cond c a b)) joined (chosen_own s r q)
+  pub own-Cond : (c a b : Expr) (s r q : Owned) → IsOwn (walk names c) false s → IsOwn (walk names a) false r → IsOwn (walk names b) false q →
+      IsOwn (walk names (e.Cond c a b)) joined (chosen_own s r q)
   own-Cond c a b s r q f h g = subst (λ z. IsOwn z joined (chosen_own s r q)) (sym (walk-Cond names c a b)) (choose (walk names c) (walk names a) (walk names b) s r q f h g)
 
   pub cast-right : (signed : Bool) (w : Walk) (o : Own) → HasOwn w false o → HasOwn (walk_step names (Expr-F.Cast signed w)) joined (record { width = o.width; signed = signed })
-  cast-right signed w o h = has names (Expr-F.Cast signed w) joined (record { width = o.width; signed = signed }) refl h.width refl h.some h.most (rw h.constant) (λ fixed W T. h.sound fixed (width_at w) (signed_at w))
+  cast-right signed w o h = has names (Expr-F.Cast signed w) joined (record { width = o.width; signed = signed }) refl h.width refl h.some h.most (rw h.constant)
+      (λ fixed W T. h.sound fixed (width_at w) (signed_at w))
 
   cast : (signed : Bool) (w : Walk) (r : Owned) → IsOwn w false r → IsOwn (walk_step names (Expr-F.Cast signed w)) joined (cast_own signed r)
   cast signed w (Ok o) h = record { right = cast-right signed w o h.right; wrong = tt }

@@ -40,8 +40,10 @@ module _ (names : Names) (joined : Bool) where
 
   pub lit : (l : Literal) → IsPlain (walk_step names (Expr-F.Lit l)) joined (literal_full l joined)
   lit l = elim (split (is_width (size_of l.size) && not (is_literal_fault (read_role joined) l))) [
-    | inl h ↦ subst (λ t. IsPlain (walk_step names (Expr-F.Lit l)) joined (literal_word l (cond t (Ok (record { width = size_of l.size; signed = l.signed })) (Err (x.Range l.place))))) (sym h) (record { right = lit-right l (leaves.and-left _ _ h) (leaves.not-false _ (leaves.and-right _ _ h)); wrong = tt })
-    | inr h ↦ subst (λ t. IsPlain (walk_step names (Expr-F.Lit l)) joined (literal_word l (cond t (Ok (record { width = size_of l.size; signed = l.signed })) (Err (x.Range l.place))))) (sym h) (record { right = tt; wrong = leaves.lit-wrong names joined l h })
+    | inl h ↦ subst (λ t. IsPlain (walk_step names (Expr-F.Lit l)) joined (literal_word l (cond t (Ok (record { width = size_of l.size; signed = l.signed })) (Err (x.Range l.place)))))
+        (sym h) (record { right = lit-right l (leaves.and-left _ _ h) (leaves.not-false _ (leaves.and-right _ _ h)); wrong = tt })
+    | inr h ↦ subst (λ t. IsPlain (walk_step names (Expr-F.Lit l)) joined (literal_word l (cond t (Ok (record { width = size_of l.size; signed = l.signed })) (Err (x.Range l.place)))))
+        (sym h) (record { right = tt; wrong = leaves.lit-wrong names joined l h })
   ]
 
 module _ (names : Names) (path : Path) (c : Const) (known : names path ≡ Some (constant_of path.name c)) (z : IsSized c) (joined : Bool) where
@@ -54,7 +56,8 @@ module _ (names : Names) (path : Path) (c : Const) (known : names path ≡ Some 
 
   pub full-whole : IsPlain (walk_step names (Expr-F.Name path [])) joined (Ok (whole_full c))
   full-whole = record {
-    right = plain-node names joined (Expr-F.Name path []) (whole_full c) refl whole-right (λ W T v. rw known (sym (leaves.bare-value T c.left c.right c.word.width W c.word.value z.spans z.fits))) z.fits (λ j fixed W T. divides-none);
+    right = plain-node names joined (Expr-F.Name path []) (whole_full c) refl whole-right
+        (λ W T v. rw known (sym (leaves.bare-value T c.left c.right c.word.width W c.word.value z.spans z.fits))) z.fits (λ j fixed W T. divides-none);
     wrong = tt;
   }
 
@@ -123,7 +126,8 @@ module _ (names : Names) (joined_too : Bool) where
       let wide_all : widths (meanings (map (λ r. r.reading) (map (λ w. w.shown) ws))) ≡ word.width = leaves.shown-widths ws ∙ sym g.widths.width in
       plain-node names joined_too (Expr-F.Rep n ws) (record { word = record { width = f.word.value * word.width; value = repeated f.word.value word.width word.value }; signed = false }) refl
       (leaves.rep-right names joined_too n ws f word.width h g.widths c k)
-      (λ W T v. ap (λ i. extended T (i * widths (meanings (map (λ r. r.reading) (map (λ w. w.shown) ws)))) W (repeated i (widths (meanings (map (λ r. r.reading) (map (λ w. w.shown) ws)))) (joined v (meanings (map (λ r. r.reading) (map (λ w. w.shown) ws))))))
+      (λ W T v. ap (λ i. extended T (i * widths (meanings (map (λ r. r.reading) (map (λ w. w.shown) ws)))) W
+      (repeated i (widths (meanings (map (λ r. r.reading) (map (λ w. w.shown) ws)))) (joined v (meanings (map (λ r. r.reading) (map (λ w. w.shown) ws))))))
       (sym (leaves.count-value n f h)) ∙
       (ap (λ i. extended T (f.word.value * i) W (repeated f.word.value i (joined v (meanings (map (λ r. r.reading) (map (λ w. w.shown) ws)))))) wide_all ∙
       ap (λ i. extended T (f.word.value * word.width) W (repeated f.word.value word.width i)) (ap (joined v) (shown-meanings ws) ∙ sym (g.is v))))
@@ -132,17 +136,26 @@ module _ (names : Names) (joined_too : Bool) where
 
   rep-told : (n : Walk) (ws : List Walk) → (is_width (walk_step names (Expr-F.Rep n ws)).shown.reading.meaning.width ≡ false) ⊎ (is_positive (number n.shown) ≡ false) →
       HasNoOwn (walk_step names (Expr-F.Rep n ws)) joined_too (x.Range (first_place (walk_step names (Expr-F.Rep n ws)).shown))
-  rep-told n ws (inl k) = record { told = λ fixed W T. told-range (site_of names (Expr-F.Rep n ws) (read_role joined_too) fixed W T) (below_sites (Expr-F.Rep n ws) (read_role joined_too) fixed W T) (rw k refl) }
-  rep-told n ws (inr k) = record { told = λ fixed W T. told-range (site_of names (Expr-F.Rep n ws) (read_role joined_too) fixed W T) (below_sites (Expr-F.Rep n ws) (read_role joined_too) fixed W T) (rw k (leaves.or-true _)) }
+  rep-told n ws (inl k) = record {
+    told = λ fixed W T. told-range (site_of names (Expr-F.Rep n ws) (read_role joined_too) fixed W T)
+        (below_sites (Expr-F.Rep n ws) (read_role joined_too) fixed W T) (rw k refl);
+  }
+  rep-told n ws (inr k) = record {
+    told = λ fixed W T. told-range (site_of names (Expr-F.Rep n ws) (read_role joined_too) fixed W T)
+        (below_sites (Expr-F.Rep n ws) (read_role joined_too) fixed W T) (rw k (leaves.or-true _));
+  }
 
-  rep-wide : (n : Walk) (ws : List Walk) (f : Full) → HasFull n false f → is_width (total_width ws) ≡ false → HasNoOwn (walk_step names (Expr-F.Rep n ws)) joined_too (x.Range (first_place (walk_step names (Expr-F.Rep n ws)).shown))
+  rep-wide : (n : Walk) (ws : List Walk) (f : Full) → HasFull n false f → is_width (total_width ws) ≡ false →
+      HasNoOwn (walk_step names (Expr-F.Rep n ws)) joined_too (x.Range (first_place (walk_step names (Expr-F.Rep n ws)).shown))
   rep-wide n ws f h k = elim (split (is_count f)) [
-    | inl c ↦ rep-told n ws (inl (ap is_width (ap (λ i. i * widths (meanings (map (λ r. r.reading) (map (λ w. w.shown) ws)))) (sym (leaves.count-value n f h)) ∙ ap (λ i. f.word.value * i) (leaves.shown-widths ws)) ∙
+    | inl c ↦ rep-told n ws (inl (ap is_width (ap (λ i. i * widths (meanings (map (λ r. r.reading) (map (λ w. w.shown) ws)))) (sym (leaves.count-value n f h)) ∙
+        ap (λ i. f.word.value * i) (leaves.shown-widths ws)) ∙
         times-out f.word.value (total_width ws) (leaves.and-left _ _ c) k))
     | inr c ↦ rep-told n ws (inr (sym (leaves.positive n f h) ∙ c))
   ]
 
-  rep-wrong : (n : Walk) (ws : List Walk) (f : Full) (y : ConstError) → HasFull n false f → HasNoJoint ws (first_place (walk_step names (Expr-F.Rep n ws)).shown) y → HasNoOwn (walk_step names (Expr-F.Rep n ws)) joined_too y
+  rep-wrong : (n : Walk) (ws : List Walk) (f : Full) (y : ConstError) → HasFull n false f → HasNoJoint ws (first_place (walk_step names (Expr-F.Rep n ws)).shown) y →
+      HasNoOwn (walk_step names (Expr-F.Rep n ws)) joined_too y
   rep-wrong n ws f y h (inside g) = hasnt names (Expr-F.Rep n ws) joined_too y (λ fixed W T. told-second (fixed_sites n) (joined_sites fixed ws) y (g.told fixed))
   rep-wrong n ws f y h (wide k) = rep-wide n ws f h k
 
@@ -155,12 +168,20 @@ module _ (names : Names) (joined_too : Bool) where
 
   pub rep : (n : Walk) (ws : List Walk) (p : Valued) (q : Result Bits ConstError) → IsFull n false p → IsJoint ws (first_place (walk_step names (Expr-F.Rep n ws)).shown) q →
       IsPlain (walk_step names (Expr-F.Rep n ws)) joined_too (repeated_full (first_place (walk_step names (Expr-F.Rep n ws)).shown) p q)
-  rep n ws (Err y) q h g = record { right = tt; wrong = hasnt names (Expr-F.Rep n ws) joined_too y (λ fixed W T. told-first (fixed_sites n) (joined_sites fixed ws) y (h.wrong.told (Some (first_place n.shown)))) }
+  rep n ws (Err y) q h g = record {
+    right = tt;
+    wrong = hasnt names (Expr-F.Rep n ws) joined_too y
+        (λ fixed W T. told-first (fixed_sites n) (joined_sites fixed ws) y (h.wrong.told (Some (first_place n.shown))));
+  }
   rep n ws (Ok f) (Err y) h g = record { right = tt; wrong = rep-wrong n ws f y h.right g.wrong }
   rep n ws (Ok f) (Ok word) h g = elim (split (is_count f && is_width (f.word.value * word.width))) [
-    | inl e ↦ subst (λ t. IsPlain (walk_step names (Expr-F.Rep n ws)) joined_too (cond t (Ok (record { word = record { width = f.word.value * word.width; value = repeated f.word.value word.width word.value }; signed = false })) (Err (x.Range (first_place (walk_step names (Expr-F.Rep n ws)).shown))))) (sym e)
+    | inl e ↦ subst (λ t. IsPlain (walk_step names (Expr-F.Rep n ws)) joined_too
+        (cond t (Ok (record { word = record { width = f.word.value * word.width; value = repeated f.word.value word.width word.value }; signed = false }))
+        (Err (x.Range (first_place (walk_step names (Expr-F.Rep n ws)).shown))))) (sym e)
         (record { right = rep-right n ws f word h.right g.right (leaves.and-left _ _ e) (leaves.and-right _ _ e); wrong = tt })
-    | inr e ↦ subst (λ t. IsPlain (walk_step names (Expr-F.Rep n ws)) joined_too (cond t (Ok (record { word = record { width = f.word.value * word.width; value = repeated f.word.value word.width word.value }; signed = false })) (Err (x.Range (first_place (walk_step names (Expr-F.Rep n ws)).shown))))) (sym e)
+    | inr e ↦ subst (λ t. IsPlain (walk_step names (Expr-F.Rep n ws)) joined_too
+        (cond t (Ok (record { word = record { width = f.word.value * word.width; value = repeated f.word.value word.width word.value }; signed = false }))
+        (Err (x.Range (first_place (walk_step names (Expr-F.Rep n ws)).shown))))) (sym e)
         (record { right = tt; wrong = rep-bad n ws f word h.right g.right e })
   ]
 

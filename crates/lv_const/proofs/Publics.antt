@@ -36,11 +36,13 @@ module _ (names : Names) (x : Expr) where
       let e : f.word.width ≡ W = h.width ∙ wide-enough W m in record {
         right = record {
           width = e;
-          value = λ v. h.value.is v ∙ (ap (λ n. (walk names x).shown.reading.meaning.value n f.signed v) e ∙ (ap (λ b. (walk names x).shown.reading.meaning.value W b v) h.signed ∙ ap (λ r. r.meaning.value W T v) (walk-reads names x)));
+          value = λ v. h.value.is v ∙ (ap (λ n. (walk names x).shown.reading.meaning.value n f.signed v) e ∙
+              (ap (λ b. (walk names x).shown.reading.meaning.value W b v) h.signed ∙ ap (λ r. r.meaning.value W T v) (walk-reads names x)));
           divides = λ fixed. subst (λ b. Divides ((walk names x).sites Value fixed W b)) h.signed (subst (λ n. Divides ((walk names x).sites Value fixed n f.signed)) e (h.value.divides false fixed));
         };
         wrong = tt;
       }
 
-  pub value_wrong : (W : ℕ) (T : Bool) (y : ConstError) → own_width names x ≤ W → HasNoReached (walk names x) false (record { least = W; signed = T; fixed = true }) y → IsValueAnswer names x W T (Err y)
+  pub value_wrong : (W : ℕ) (T : Bool) (y : ConstError) → own_width names x ≤ W → HasNoReached (walk names x) false (record { least = W; signed = T; fixed = true }) y →
+      IsValueAnswer names x W T (Err y)
   value_wrong W T y m h = record { right = tt; wrong = record { told = λ fixed. subst (λ n. Told ((walk names x).sites Value fixed n T) y) (wide-enough W m) (h.told fixed) } }

@@ -61,7 +61,10 @@ pub full-alone : (w : Walk) (joined : Bool) (f : Full) → HasReached w joined a
 full-alone w joined f h = record { own = own-is w joined f.word.width f.signed (h.width ∙ max-zero (width_at w)) (h.signed ∙ and-true (signed_at w)) h.own; value = h.value }
 
 pub none-alone : (w : Walk) (joined : Bool) (y : ConstError) → HasNoReached w joined alone y → HasNoFull w joined y
-none-alone w joined y h = record { told = λ fixed. subst (λ n. Told (sites_at w joined fixed n (signed_at w)) y) (max-zero (width_at w)) (subst (λ b. Told (sites_at w joined fixed (max (width_at w) 0) b) y) (and-true (signed_at w)) (h.told fixed)) }
+none-alone w joined y h = record {
+  told = λ fixed. subst (λ n. Told (sites_at w joined fixed n (signed_at w)) y) (max-zero (width_at w))
+      (subst (λ b. Told (sites_at w joined fixed (max (width_at w) 0) b) y) (and-true (signed_at w)) (h.told fixed));
+}
 
 pub is-full : (w : Walk) (joined : Bool) (r : Valued) → IsReached w joined alone r → IsFull w joined r
 is-full w joined (Ok f) h = record { right = full-alone w joined f h.right; wrong = tt }
@@ -84,7 +87,14 @@ below : (m n k : ℕ) → m ≤ k → n ≤ k → max m n ≤ k
 below m n k h g = omega (arith, h, g)
 
 place-right : (w : Walk) (joined : Bool) (reach : Reach) (f : Full) → reach.least ≤ 128 → HasPlain w joined f →
-    HasReached w joined reach (record { word = record { width = wide reach f.word.width; value = extended (typed reach f.signed) f.word.width (wide reach f.word.width) f.word.value }; signed = typed reach f.signed })
+    HasReached w joined reach (record {
+      word = record {
+        width = wide reach f.word.width;
+        value =
+            extended (typed reach f.signed) f.word.width (wide reach f.word.width) f.word.value;
+      };
+      signed = typed reach f.signed;
+    })
 place-right w joined reach f m h = record {
   own = own-self w joined (record { width = f.word.width; signed = f.signed }) h.own;
   width = ap (λ n. max n reach.least) h.own.width;
@@ -142,14 +152,17 @@ module _ (a b : Walk) (r : Reach) (o : Own) (h : HasOwn a false o) where
   second-reached f g = (g.width ∙ second-width, g.signed ∙ second-signed)
 
   pub second-told : (y : ConstError) → HasNoReached b false (spread r o) y → (fixed : Option ℕ) → Told (b.sites Value fixed (pair_width a b r) (pair_signed a b r)) y
-  second-told y g fixed = subst (λ n. Told (b.sites Value fixed n (pair_signed a b r)) y) second-width (subst (λ c. Told (b.sites Value fixed (max (width_at b) (max o.width r.least)) c) y) second-signed (g.told fixed))
+  second-told y g fixed = subst (λ n. Told (b.sites Value fixed n (pair_signed a b r)) y) second-width
+      (subst (λ c. Told (b.sites Value fixed (max (width_at b) (max o.width r.least)) c) y) second-signed (g.told fixed))
 
   held-width : (f : Full) → HasReached b false (spread r o) f → max (width_at a) f.word.width ≡ f.word.width
   held-width f g = let e : f.word.width ≡ pair_width a b r = (second-reached f g).0 in omega (arith, e)
 
-  pub first-told : (f : Full) (y : ConstError) → HasReached b false (spread r o) f → HasNoReached a false (held f) y → (fixed : Option ℕ) → Told (a.sites Value fixed (pair_width a b r) (pair_signed a b r)) y
+  pub first-told : (f : Full) (y : ConstError) → HasReached b false (spread r o) f → HasNoReached a false (held f) y → (fixed : Option ℕ) →
+      Told (a.sites Value fixed (pair_width a b r) (pair_signed a b r)) y
   first-told f y g k fixed =
-      subst (λ n. Told (a.sites Value fixed n (pair_signed a b r)) y) (held-width f g ∙ (second-reached f g).0) (subst (λ c. Told (a.sites Value fixed (max (width_at a) f.word.width) c) y) (second-reached f g).1 (k.told fixed))
+      subst (λ n. Told (a.sites Value fixed n (pair_signed a b r)) y) (held-width f g ∙ (second-reached f g).0)
+      (subst (λ c. Told (a.sites Value fixed (max (width_at a) f.word.width) c) y) (second-reached f g).1 (k.told fixed))
 
   pub both-reached : (f e : Full) → HasReached b false (spread r o) f → HasReached a false (held f) e → HasPair a b r (record { left = e.word; right = f.word; signed = e.signed })
   both-reached f e g k = record {
@@ -163,7 +176,8 @@ module _ (a b : Walk) (r : Reach) (o : Own) (h : HasOwn a false o) where
     right = subst (λ n. HasValue b n e.signed f.word.value) (sym (k.width ∙ held-width f g)) (subst (λ c. HasValue b f.word.width c f.word.value) (sym k.signed) g.value);
   }
 
-flip-pair : (a b : Walk) (r : Reach) (f e : Full) → f.word.width ≡ e.word.width → f.signed ≡ e.signed → HasPair b a r (record { left = e.word; right = f.word; signed = e.signed }) → HasPair a b r (record { left = f.word; right = e.word; signed = f.signed })
+flip-pair : (a b : Walk) (r : Reach) (f e : Full) → f.word.width ≡ e.word.width → f.signed ≡ e.signed → HasPair b a r (record { left = e.word; right = f.word; signed = e.signed }) →
+    HasPair a b r (record { left = f.word; right = e.word; signed = f.signed })
 flip-pair a b r f e n c h = record {
   left_own = h.right_own;
   right_own = h.left_own;
@@ -181,8 +195,10 @@ no-pair_first a b r y h = record { told = λ fixed. told-first _ _ y (h fixed) }
 no-pair_second : (a b : Walk) (r : Reach) (y : ConstError) → ((fixed : Option ℕ) → Told (b.sites Value fixed (pair_width a b r) (pair_signed a b r)) y) → HasNoPair a b r y
 no-pair_second a b r y h = record { told = λ fixed. told-second _ _ y (h fixed) }
 
-swap-told : (a b c : Walk) (r : Reach) (y : ConstError) → ((fixed : Option ℕ) → Told (c.sites Value fixed (pair_width b a r) (pair_signed b a r)) y) → (fixed : Option ℕ) → Told (c.sites Value fixed (pair_width a b r) (pair_signed a b r)) y
-swap-told a b c r y h fixed = subst (λ n. Told (c.sites Value fixed n (pair_signed a b r)) y) (pair-swap_width a b r) (subst (λ d. Told (c.sites Value fixed (pair_width b a r) d) y) (pair-swap_signed a b r) (h fixed))
+swap-told : (a b c : Walk) (r : Reach) (y : ConstError) → ((fixed : Option ℕ) → Told (c.sites Value fixed (pair_width b a r) (pair_signed b a r)) y) → (fixed : Option ℕ) →
+    Told (c.sites Value fixed (pair_width a b r) (pair_signed a b r)) y
+swap-told a b c r y h fixed = subst (λ n. Told (c.sites Value fixed n (pair_signed a b r)) y) (pair-swap_width a b r)
+    (subst (λ d. Told (c.sites Value fixed (pair_width b a r) d) y) (pair-swap_signed a b r) (h fixed))
 
 -- the left one is the lighter, and looked at first
 pub left-wrong : (a b : Walk) (r : Reach) (y : ConstError) → HasNoOwn a false y → IsPair a b r (Err y)
@@ -237,10 +253,12 @@ module _ (names : Names) (joined : Bool) where
     own = own;
     is = is;
     fits = fits;
-    divides = λ j fixed W T. divides-node (site_of names x (read_role j) fixed W T) (below_sites x (read_role j) fixed W T) (undivided (site_of names x (read_role j) fixed W T) p) (divides j fixed W T);
+    divides = λ j fixed W T. divides-node (site_of names x (read_role j) fixed W T) (below_sites x (read_role j) fixed W T) (undivided (site_of names x (read_role j) fixed W T) p)
+        (divides j fixed W T);
   }
 
-  pub no-plain : (x : Expr-F Walk WalkStep) (y : ConstError) → ((fixed : Option ℕ) (W : ℕ) (T : Bool) → Told (below_sites x (read_role joined) fixed W T) y) → IsPlain (walk_step names x) joined (Err y)
+  pub no-plain : (x : Expr-F Walk WalkStep) (y : ConstError) → ((fixed : Option ℕ) (W : ℕ) (T : Bool) → Told (below_sites x (read_role joined) fixed W T) y) →
+      IsPlain (walk_step names x) joined (Err y)
   no-plain x y h = record { right = tt; wrong = owns.hasnt names x joined y h }
 
   no-reached : (x : Expr-F Walk WalkStep) (r : Reach) (y : ConstError) →
@@ -269,7 +287,8 @@ module _ (names : Names) (joined : Bool) where
   un-bit op w (Err y) k h = no-plain (Expr-F.Un op w) y (λ fixed W T. rw k (h.wrong.told fixed))
   un-bit op w (Ok f) k h = record {
     right = plain-node (Expr-F.Un op w) (record { word = unary_of op f.word; signed = false }) refl
-        (subst (λ n. HasOwn (walk_step names (Expr-F.Un op w)) joined (record { width = n; signed = false })) (rw k refl) (owns.un-bit names joined op w (record { width = f.word.width; signed = f.signed }) k h.right.own))
+        (subst (λ n. HasOwn (walk_step names (Expr-F.Un op w)) joined (record { width = n; signed = false })) (rw k refl)
+        (owns.un-bit names joined op w (record { width = f.word.width; signed = f.signed }) k h.right.own))
         (λ W T v. rw k (ap (extended T 1 W) (sym (ap (λ n. unary_value op n f.word.value) h.right.own.width ∙ ap (unary_value op (width_at w)) (full-own_value w false f h.right v)))))
         (unary_lt op f.word.width f.word.value h.right.value.fits) (λ j fixed W T. rw k (full-divided w false f h.right false fixed));
     wrong = tt;
@@ -292,49 +311,57 @@ module _ (names : Names) (joined : Bool) where
   clash : {b : Bool} → b ≡ true → IsFalse b → ⊥
   clash e h = cc
 
-  pub bin-shift : (op : Op) (a b : Walk) (r : Reach) (p q : Valued) → keeps_width op ≡ true → is_apart op ≡ true → IsReached a false r p → IsFull b false q → IsReached (walk_step names (Expr-F.Bin op a b)) joined r (shifted op p q)
+  pub bin-shift : (op : Op) (a b : Walk) (r : Reach) (p q : Valued) → keeps_width op ≡ true → is_apart op ≡ true → IsReached a false r p → IsFull b false q →
+      IsReached (walk_step names (Expr-F.Bin op a b)) joined r (shifted op p q)
   bin-shift op a b r (Err y) q k j h g = no-reached (Expr-F.Bin op a b) r y (λ fixed. rw (k, j) (told-first _ _ y (h.wrong.told fixed)))
   bin-shift op a b r (Ok e) (Err y) k j h g = no-reached (Expr-F.Bin op a b) r y (λ fixed. rw (k, j) (told-second _ _ y (g.wrong.told fixed)))
   bin-shift op a b r (Ok e) (Ok f) k j h g = record {
     right = record {
-      own = own-self (walk_step names (Expr-F.Bin op a b)) joined (own_of_walk a) (owns.bin-shift names joined op a b (own_of_walk a) (record { width = f.word.width; signed = f.signed }) k j h.right.own g.right.own);
+      own = own-self (walk_step names (Expr-F.Bin op a b)) joined (own_of_walk a)
+          (owns.bin-shift names joined op a b (own_of_walk a) (record { width = f.word.width; signed = f.signed }) k j h.right.own g.right.own);
       width = rw (k, j) h.right.width;
       signed = rw (k, j) h.right.signed;
       most = rw k h.right.most;
       value = subst (λ n. HasValue (walk_step names (Expr-F.Bin op a b)) n e.signed (binary_value op e.signed e.word.width e.word.value f.word.value)) (rw k refl)
           (has-value (Expr-F.Bin op a b) e.word.width e.signed (binary_value op e.signed e.word.width e.word.value f.word.value) refl
-          (λ v. rw (k, j) (ap (λ i. binary_value op e.signed e.word.width i f.word.value) (h.right.value.is v) ∙ ap (λ i. binary_value op e.signed e.word.width (a.shown.reading.meaning.value e.word.width e.signed v) i) (full-own_value b false f g.right v)))
+          (λ v. rw (k, j) (ap (λ i. binary_value op e.signed e.word.width i f.word.value) (h.right.value.is v) ∙
+          ap (λ i. binary_value op e.signed e.word.width (a.shown.reading.meaning.value e.word.width e.signed v) i) (full-own_value b false f g.right v)))
           (rw k at (binary_lt op e.signed e.word.width e.word.value f.word.value h.right.value.fits (λ c. absurd (clash j c))))
           (two-constant _ _ h.right.value.constant g.right.own.constant) (λ i fixed. rw (k, j) (divides-both _ _ (h.right.value.divides false fixed) (full-divided b false f g.right false fixed))));
     };
     wrong = tt;
   }
 
-  pub bin-logical : (op : Op) (a b : Walk) (p q : Valued) → keeps_width op ≡ false → is_apart op ≡ true → IsFull a false p → IsFull b false q → IsPlain (walk_step names (Expr-F.Bin op a b)) joined (logical op p q)
+  pub bin-logical : (op : Op) (a b : Walk) (p q : Valued) → keeps_width op ≡ false → is_apart op ≡ true → IsFull a false p → IsFull b false q →
+      IsPlain (walk_step names (Expr-F.Bin op a b)) joined (logical op p q)
   bin-logical op a b (Err y) q k j h g = no-plain (Expr-F.Bin op a b) y (λ fixed W T. rw (k, j) (told-first _ _ y (h.wrong.told fixed)))
   bin-logical op a b (Ok e) (Err y) k j h g = no-plain (Expr-F.Bin op a b) y (λ fixed W T. rw (k, j) (told-second _ _ y (g.wrong.told fixed)))
   bin-logical op a b (Ok e) (Ok f) k j h g = record {
     right = plain-node (Expr-F.Bin op a b) (record { word = binary_of op false e.word f.word; signed = false }) refl
         (subst (λ n. HasOwn (walk_step names (Expr-F.Bin op a b)) joined (record { width = n; signed = false })) (rw k refl)
         (owns.bin-logical names joined op a b (record { width = e.word.width; signed = e.signed }) (record { width = f.word.width; signed = f.signed }) k j h.right.own g.right.own))
-        (λ W T v. rw (k, j) (ap (extended T 1 W) (sym (ap (λ i. binary_value op false i e.word.value f.word.value) h.right.own.width ∙ (ap (λ i. binary_value op false (width_at a) i f.word.value) (full-own_value a false e h.right v) ∙
+        (λ W T v. rw (k, j) (ap (extended T 1 W) (sym (ap (λ i. binary_value op false i e.word.value f.word.value) h.right.own.width ∙
+        (ap (λ i. binary_value op false (width_at a) i f.word.value) (full-own_value a false e h.right v) ∙
         ap (λ i. binary_value op false (width_at a) (own_value a.shown.reading.meaning v) i) (full-own_value b false f g.right v))))))
         (binary_lt op false e.word.width e.word.value f.word.value h.right.value.fits (λ c. absurd (clash j c)))
         (λ i fixed W T. rw (k, j) (divides-both _ _ (full-divided a false e h.right false fixed) (full-divided b false f g.right false fixed)));
     wrong = tt;
   }
 
-  pub bin-arithmetic : (op : Op) (a b : Walk) (r : Reach) (q : Paired) → keeps_width op ≡ true → is_apart op ≡ false → IsPair a b r q → IsReached (walk_step names (Expr-F.Bin op a b)) joined r (arithmetic op q)
+  pub bin-arithmetic : (op : Op) (a b : Walk) (r : Reach) (q : Paired) → keeps_width op ≡ true → is_apart op ≡ false → IsPair a b r q →
+      IsReached (walk_step names (Expr-F.Bin op a b)) joined r (arithmetic op q)
   bin-arithmetic op a b r (Err y) k j h = no-reached (Expr-F.Bin op a b) r y (λ fixed. rw (k, j) (h.wrong.told fixed))
   bin-arithmetic op a b r (Ok p) k j h = record {
     right = record {
-      own = own-self (walk_step names (Expr-F.Bin op a b)) joined (greater (own_of_walk a) (own_of_walk b)) (owns.bin-arithmetic names joined op a b (own_of_walk a) (own_of_walk b) k j h.right.left_own h.right.right_own);
+      own = own-self (walk_step names (Expr-F.Bin op a b)) joined (greater (own_of_walk a) (own_of_walk b))
+          (owns.bin-arithmetic names joined op a b (own_of_walk a) (own_of_walk b) k j h.right.left_own h.right.right_own);
       width = rw (k, j) h.right.width;
       signed = rw (k, j) h.right.signed;
       most = rw k h.right.most;
       value = subst (λ n. HasValue (walk_step names (Expr-F.Bin op a b)) n p.signed (binary_value op p.signed p.left.width p.left.value p.right.value)) (rw k refl)
           (has-value (Expr-F.Bin op a b) p.left.width p.signed (binary_value op p.signed p.left.width p.left.value p.right.value) refl
-          (λ v. rw (k, j) (ap (λ i. binary_value op p.signed p.left.width i p.right.value) (h.right.left.is v) ∙ ap (λ i. binary_value op p.signed p.left.width (a.shown.reading.meaning.value p.left.width p.signed v) i) (h.right.right.is v)))
+          (λ v. rw (k, j) (ap (λ i. binary_value op p.signed p.left.width i p.right.value) (h.right.left.is v) ∙
+          ap (λ i. binary_value op p.signed p.left.width (a.shown.reading.meaning.value p.left.width p.signed v) i) (h.right.right.is v)))
           (rw k at (binary_lt op p.signed p.left.width p.left.value p.right.value h.right.left.fits (λ _. h.right.right.fits)))
           (two-constant _ _ h.right.left.constant h.right.right.constant) (λ i fixed. rw (k, j) (divides-both _ _ (h.right.left.divides false fixed) (h.right.right.divides false fixed))));
     };
@@ -356,12 +383,14 @@ module _ (names : Names) (joined : Bool) where
   greater-value a b c p n h g = subst (λ k. HasValue c k (signed_at a && signed_at b) n) (h.width ∙ alone-width a b) (subst (λ s. HasValue c p.left.width s n) (h.signed ∙ alone-signed a b) g)
 
   greater-is : (op : Op) (a b : Walk) (p : Pair) → HasPair a b alone p → (v : Valuation) → binary_value op p.signed p.left.width p.left.value p.right.value ≡
-      binary_value op (signed_at a && signed_at b) (max (width_at a) (width_at b)) (a.shown.reading.meaning.value (max (width_at a) (width_at b)) (signed_at a && signed_at b) v) (b.shown.reading.meaning.value (max (width_at a) (width_at b)) (signed_at a && signed_at b) v)
+      binary_value op (signed_at a && signed_at b) (max (width_at a) (width_at b)) (a.shown.reading.meaning.value (max (width_at a) (width_at b)) (signed_at a && signed_at b) v)
+      (b.shown.reading.meaning.value (max (width_at a) (width_at b)) (signed_at a && signed_at b) v)
   greater-is op a b p h v =
       ap (λ s. binary_value op s p.left.width p.left.value p.right.value) (h.signed ∙ alone-signed a b) ∙
       (ap (λ n. binary_value op (signed_at a && signed_at b) n p.left.value p.right.value) (h.width ∙ alone-width a b) ∙
       (ap (λ i. binary_value op (signed_at a && signed_at b) (max (width_at a) (width_at b)) i p.right.value) ((greater-value a b a p p.left.value h h.left).is v) ∙
-      ap (λ i. binary_value op (signed_at a && signed_at b) (max (width_at a) (width_at b)) (a.shown.reading.meaning.value (max (width_at a) (width_at b)) (signed_at a && signed_at b) v) i) ((greater-value a b b p p.right.value h h.right).is v)))
+      ap (λ i. binary_value op (signed_at a && signed_at b) (max (width_at a) (width_at b))
+      (a.shown.reading.meaning.value (max (width_at a) (width_at b)) (signed_at a && signed_at b) v) i) ((greater-value a b b p p.right.value h h.right).is v)))
 
   pub bin-compared : (op : Op) (a b : Walk) (q : Paired) → keeps_width op ≡ false → is_apart op ≡ false → IsPair a b alone q → IsPlain (walk_step names (Expr-F.Bin op a b)) joined (compared op q)
   bin-compared op a b (Err y) k j h = no-plain (Expr-F.Bin op a b) y (λ fixed W T. rw (k, j) (greater-told a b y h.wrong fixed))
@@ -371,7 +400,8 @@ module _ (names : Names) (joined : Bool) where
         (owns.bin-compared names joined op a b (own_of_walk a) (own_of_walk b) k j h.right.left_own h.right.right_own))
         (λ W T v. rw (k, j) (ap (extended T 1 W) (sym (greater-is op a b p h.right v))))
         (binary_lt op p.signed p.left.width p.left.value p.right.value h.right.left.fits (λ _. h.right.right.fits))
-        (λ i fixed W T. rw (k, j) (divides-both _ _ ((greater-value a b a p p.left.value h.right h.right.left).divides false fixed) ((greater-value a b b p p.right.value h.right h.right.right).divides false fixed)));
+        (λ i fixed W T. rw (k, j) (divides-both _ _ ((greater-value a b a p p.left.value h.right h.right.left).divides false fixed)
+        ((greater-value a b b p p.right.value h.right h.right.right).divides false fixed)));
     wrong = tt;
   }
 
@@ -393,13 +423,15 @@ module _ (names : Names) (joined : Bool) where
   choose c a b r (Ok l) (Ok p) f h =
       let e : p.left.width ≡ (cond (l.word.value == 0) p.right p.left).width = either-width (l.word.value == 0) p h.right.same in record {
         right = record {
-          own = own-self (walk_step names (Expr-F.Cond c a b)) joined (greater (own_of_walk a) (own_of_walk b)) (owns.cond-right names joined c a b (record { width = l.word.width; signed = l.signed }) (own_of_walk a) (own_of_walk b) f.right.own h.right.left_own h.right.right_own);
+          own = own-self (walk_step names (Expr-F.Cond c a b)) joined (greater (own_of_walk a) (own_of_walk b))
+              (owns.cond-right names joined c a b (record { width = l.word.width; signed = l.signed }) (own_of_walk a) (own_of_walk b) f.right.own h.right.left_own h.right.right_own);
           width = sym e ∙ h.right.width;
           signed = h.right.signed;
           most = subst (λ n. n ≤ 128) e h.right.most;
           value = subst (λ n. HasValue (walk_step names (Expr-F.Cond c a b)) n p.signed (cond (l.word.value == 0) p.right p.left).value) e
               (has-value (Expr-F.Cond c a b) p.left.width p.signed (cond (l.word.value == 0) p.right p.left).value refl
-              (λ v. either-value (l.word.value == 0) p (a.shown.reading.meaning.value p.left.width p.signed v) (b.shown.reading.meaning.value p.left.width p.signed v) (h.right.left.is v) (h.right.right.is v) ∙
+              (λ v. either-value (l.word.value == 0) p (a.shown.reading.meaning.value p.left.width p.signed v) (b.shown.reading.meaning.value p.left.width p.signed v) (h.right.left.is v)
+              (h.right.right.is v) ∙
               ap (λ i. cond (i == 0) (b.shown.reading.meaning.value p.left.width p.signed v) (a.shown.reading.meaning.value p.left.width p.signed v)) (full-own_value c false l f.right v))
               (either-fits p.left.width (l.word.value == 0) p h.right.left.fits h.right.right.fits)
               (rw (f.right.own.constant, h.right.left.constant, h.right.right.constant) refl)
@@ -414,7 +446,8 @@ module _ (names : Names) (joined : Bool) where
   zero-site b W T n z g e = ap (λ i. b.shown.reading.constant && (i == 0)) (sym (g.is nowhere)) ∙ (rw g.constant e)
 
   divides-site : (x : Expr-F Walk WalkStep) (a b : Walk) (W : ℕ) (T : Bool) (m n : ℕ) → ((j : Bool) (fixed : Option ℕ) → zero_faults (site_of names x (read_role j) fixed W T) ≡ []) →
-      ((j : Bool) (fixed : Option ℕ) → below_sites x (read_role j) fixed W T ≡ a.sites Value fixed W T ++ b.sites Value fixed W T) → HasValue a W T m → HasValue b W T n → (j : Bool) (fixed : Option ℕ) →
+      ((j : Bool) (fixed : Option ℕ) → below_sites x (read_role j) fixed W T ≡ a.sites Value fixed W T ++ b.sites Value fixed W T) → HasValue a W T m → HasValue b W T n →
+      (j : Bool) (fixed : Option ℕ) →
       Divides (sites_at (walk_step names x) j fixed W T)
   divides-site x a b W T m n z e h g j fixed = divides-node (site_of names x (read_role j) fixed W T) (below_sites x (read_role j) fixed W T) (z j fixed)
       (subst Divides (sym (e j fixed)) (divides-both _ _ (h.divides false fixed) (g.divides false fixed)))
@@ -439,54 +472,70 @@ module _ (names : Names) (joined : Bool) where
 
   div-zero : (a b : Walk) (r : Reach) (p : Pair) → HasPair a b r p → (p.right.value == 0) ≡ true → IsReached (walk_step names (Expr-F.Div a b)) joined r (Err (x.ZeroDivisor (first_place b.shown)))
   div-zero a b r p h z =
-      let g : HasValue b (pair_width a b r) (pair_signed a b r) p.right.value = subst (λ n. HasValue b n (pair_signed a b r) p.right.value) h.width (subst (λ s. HasValue b p.left.width s p.right.value) h.signed h.right) in record {
+      let g : HasValue b (pair_width a b r) (pair_signed a b r) p.right.value =
+      subst (λ n. HasValue b n (pair_signed a b r) p.right.value) h.width (subst (λ s. HasValue b p.left.width s p.right.value) h.signed h.right) in record {
         right = tt;
         wrong = record {
-          told = λ fixed. told-zero (site_of names (Expr-F.Div a b) (read_role joined) fixed (pair_width a b r) (pair_signed a b r)) (below_sites (Expr-F.Div a b) (read_role joined) fixed (pair_width a b r) (pair_signed a b r))
+          told = λ fixed. told-zero (site_of names (Expr-F.Div a b) (read_role joined) fixed (pair_width a b r) (pair_signed a b r))
+              (below_sites (Expr-F.Div a b) (read_role joined) fixed (pair_width a b r) (pair_signed a b r))
               (first_of (a.shown.places ++ b.shown.places)) (first_place b.shown ∷ [])
-              (ap (λ c. cond c (first_of (a.shown.places ++ b.shown.places) ∷ first_place b.shown ∷ []) []) (zero-site b (pair_width a b r) (pair_signed a b r) p.right.value true g z)) (first_place b.shown) (1, omega arith, refl);
+              (ap (λ c. cond c (first_of (a.shown.places ++ b.shown.places) ∷ first_place b.shown ∷ []) []) (zero-site b (pair_width a b r) (pair_signed a b r) p.right.value true g z))
+              (first_place b.shown) (1, omega arith, refl);
         };
       }
 
   rem-zero : (a b : Walk) (r : Reach) (p : Pair) → HasPair a b r p → (p.right.value == 0) ≡ true → IsReached (walk_step names (Expr-F.Rem a b)) joined r (Err (x.ZeroDivisor (first_place b.shown)))
   rem-zero a b r p h z =
-      let g : HasValue b (pair_width a b r) (pair_signed a b r) p.right.value = subst (λ n. HasValue b n (pair_signed a b r) p.right.value) h.width (subst (λ s. HasValue b p.left.width s p.right.value) h.signed h.right) in record {
+      let g : HasValue b (pair_width a b r) (pair_signed a b r) p.right.value =
+      subst (λ n. HasValue b n (pair_signed a b r) p.right.value) h.width (subst (λ s. HasValue b p.left.width s p.right.value) h.signed h.right) in record {
         right = tt;
         wrong = record {
-          told = λ fixed. told-zero (site_of names (Expr-F.Rem a b) (read_role joined) fixed (pair_width a b r) (pair_signed a b r)) (below_sites (Expr-F.Rem a b) (read_role joined) fixed (pair_width a b r) (pair_signed a b r))
+          told = λ fixed. told-zero (site_of names (Expr-F.Rem a b) (read_role joined) fixed (pair_width a b r) (pair_signed a b r))
+              (below_sites (Expr-F.Rem a b) (read_role joined) fixed (pair_width a b r) (pair_signed a b r))
               (first_of (a.shown.places ++ b.shown.places)) (first_place b.shown ∷ [])
-              (ap (λ c. cond c (first_of (a.shown.places ++ b.shown.places) ∷ first_place b.shown ∷ []) []) (zero-site b (pair_width a b r) (pair_signed a b r) p.right.value true g z)) (first_place b.shown) (1, omega arith, refl);
+              (ap (λ c. cond c (first_of (a.shown.places ++ b.shown.places) ∷ first_place b.shown ∷ []) []) (zero-site b (pair_width a b r) (pair_signed a b r) p.right.value true g z))
+              (first_place b.shown) (1, omega arith, refl);
         };
       }
 
   pub div : (a b : Walk) (r : Reach) (q : Paired) → IsPair a b r q → IsReached (walk_step names (Expr-F.Div a b)) joined r (divided (first_place b.shown) q)
   div a b r (Err y) h = no-reached (Expr-F.Div a b) r y (λ fixed. h.wrong.told fixed)
   div a b r (Ok p) h = elim (split (p.right.value == 0)) [
-    | inl z ↦ subst (λ c. IsReached (walk_step names (Expr-F.Div a b)) joined r (cond c (Err (x.ZeroDivisor (first_place b.shown))) (Ok (record { word = record { width = p.left.width; value = quotient p.signed p.left.width p.left.value p.right.value }; signed = p.signed })))) (sym z) (div-zero a b r p h.right z)
-    | inr z ↦ subst (λ c. IsReached (walk_step names (Expr-F.Div a b)) joined r (cond c (Err (x.ZeroDivisor (first_place b.shown))) (Ok (record { word = record { width = p.left.width; value = quotient p.signed p.left.width p.left.value p.right.value }; signed = p.signed })))) (sym z) (record {
-      right = record {
-        own = own-self (walk_step names (Expr-F.Div a b)) joined (greater (own_of_walk a) (own_of_walk b)) (owns.div-right names joined a b (own_of_walk a) (own_of_walk b) h.right.left_own h.right.right_own);
-        width = h.right.width;
-        signed = h.right.signed;
-        most = h.right.most;
-        value = div-value a b p.left.width p.signed p.left.value p.right.value h.right.left h.right.right z;
-      };
-      wrong = tt;
-    })
+    | inl z ↦ subst (λ c. IsReached (walk_step names (Expr-F.Div a b)) joined r
+        (cond c (Err (x.ZeroDivisor (first_place b.shown))) (Ok
+        (record { word = record { width = p.left.width; value = quotient p.signed p.left.width p.left.value p.right.value }; signed = p.signed })))) (sym z) (div-zero a b r p h.right z)
+    | inr z ↦ subst (λ c. IsReached (walk_step names (Expr-F.Div a b)) joined r
+        (cond c (Err (x.ZeroDivisor (first_place b.shown))) (Ok
+        (record { word = record { width = p.left.width; value = quotient p.signed p.left.width p.left.value p.right.value }; signed = p.signed })))) (sym z) (record {
+          right = record {
+            own = own-self (walk_step names (Expr-F.Div a b)) joined (greater (own_of_walk a) (own_of_walk b))
+                (owns.div-right names joined a b (own_of_walk a) (own_of_walk b) h.right.left_own h.right.right_own);
+            width = h.right.width;
+            signed = h.right.signed;
+            most = h.right.most;
+            value = div-value a b p.left.width p.signed p.left.value p.right.value h.right.left h.right.right z;
+          };
+          wrong = tt;
+        })
   ]
 
   pub rem : (a b : Walk) (r : Reach) (q : Paired) → IsPair a b r q → IsReached (walk_step names (Expr-F.Rem a b)) joined r (remains (first_place b.shown) q)
   rem a b r (Err y) h = no-reached (Expr-F.Rem a b) r y (λ fixed. h.wrong.told fixed)
   rem a b r (Ok p) h = elim (split (p.right.value == 0)) [
-    | inl z ↦ subst (λ c. IsReached (walk_step names (Expr-F.Rem a b)) joined r (cond c (Err (x.ZeroDivisor (first_place b.shown))) (Ok (record { word = record { width = p.left.width; value = remainder p.signed p.left.width p.left.value p.right.value }; signed = p.signed })))) (sym z) (rem-zero a b r p h.right z)
-    | inr z ↦ subst (λ c. IsReached (walk_step names (Expr-F.Rem a b)) joined r (cond c (Err (x.ZeroDivisor (first_place b.shown))) (Ok (record { word = record { width = p.left.width; value = remainder p.signed p.left.width p.left.value p.right.value }; signed = p.signed })))) (sym z) (record {
-      right = record {
-        own = own-self (walk_step names (Expr-F.Rem a b)) joined (greater (own_of_walk a) (own_of_walk b)) (owns.rem-right names joined a b (own_of_walk a) (own_of_walk b) h.right.left_own h.right.right_own);
-        width = h.right.width;
-        signed = h.right.signed;
-        most = h.right.most;
-        value = rem-value a b p.left.width p.signed p.left.value p.right.value h.right.left h.right.right z;
-      };
-      wrong = tt;
-    })
+    | inl z ↦ subst (λ c. IsReached (walk_step names (Expr-F.Rem a b)) joined r
+        (cond c (Err (x.ZeroDivisor (first_place b.shown))) (Ok
+        (record { word = record { width = p.left.width; value = remainder p.signed p.left.width p.left.value p.right.value }; signed = p.signed })))) (sym z) (rem-zero a b r p h.right z)
+    | inr z ↦ subst (λ c. IsReached (walk_step names (Expr-F.Rem a b)) joined r
+        (cond c (Err (x.ZeroDivisor (first_place b.shown))) (Ok
+        (record { word = record { width = p.left.width; value = remainder p.signed p.left.width p.left.value p.right.value }; signed = p.signed })))) (sym z) (record {
+          right = record {
+            own = own-self (walk_step names (Expr-F.Rem a b)) joined (greater (own_of_walk a) (own_of_walk b))
+                (owns.rem-right names joined a b (own_of_walk a) (own_of_walk b) h.right.left_own h.right.right_own);
+            width = h.right.width;
+            signed = h.right.signed;
+            most = h.right.most;
+            value = rem-value a b p.left.width p.signed p.left.value p.right.value h.right.left h.right.right z;
+          };
+          wrong = tt;
+        })
   ]

@@ -39,15 +39,18 @@ falling_more x lowest count j old b h e =
     (read-more x (near_place b (lowest + (count - (j + 1)))) (map (near_place b) (range_with_len (lowest + (count - (j + 1)) + 1) j)) ∙
     ap (λ k. read_bits x (map (near_place b) (range_with_len (lowest + (count - (j + 1))) k))) (sym (add-one j))))
 
-pub falling_all : (x lowest count n old : ℕ) (b : Bounds) → n ≡ count → old ≡ read_bits x (map (near_place b) (range_with_len (lowest + (count - n)) n)) → old ≡ read_bits x (map (near_place b) (range_with_len lowest count))
+pub falling_all : (x lowest count n old : ℕ) (b : Bounds) → n ≡ count → old ≡ read_bits x (map (near_place b) (range_with_len (lowest + (count - n)) n)) →
+    old ≡ read_bits x (map (near_place b) (range_with_len lowest count))
 falling_all x lowest count n old b h e =
-    let m : lowest + (count - n) ≡ lowest = omega (arith, h) in e ∙ (ap (λ k. read_bits x (map (near_place b) (range_with_len k n))) m ∙ ap (λ k. read_bits x (map (near_place b) (range_with_len lowest k))) h)
+    let m : lowest + (count - n) ≡ lowest = omega (arith, h) in e ∙
+    (ap (λ k. read_bits x (map (near_place b) (range_with_len k n))) m ∙ ap (λ k. read_bits x (map (near_place b) (range_with_len lowest k))) h)
 
 pub rising_more : (x lowest j old : ℕ) (b : Bounds) → old ≡ read_bits x (reverse (map (near_place b) (range_with_len lowest j))) →
     2 * old + place_bit x (near_place b (lowest + j)) ≡ read_bits x (reverse (map (near_place b) (range_with_len lowest (j + 1))))
 rising_more x lowest j old b e =
     ap (λ k. 2 * k + place_bit x (near_place b (lowest + j))) e ∙ (read-more x (near_place b (lowest + j)) (reverse (map (near_place b) (range_with_len lowest j))) ∙
-    sym (ap (λ ks. read_bits x (reverse ks)) (map-range_with_len_more (near_place b) lowest j (lowest + j) refl) ∙ ap (read_bits x) (reverse-append (map (near_place b) (range_with_len lowest j)) (near_place b (lowest + j) ∷ []))))
+    sym (ap (λ ks. read_bits x (reverse ks)) (map-range_with_len_more (near_place b) lowest j (lowest + j) refl) ∙
+    ap (read_bits x) (reverse-append (map (near_place b) (range_with_len lowest j)) (near_place b (lowest + j) ∷ []))))
 
 -- ---- numbers that are near
 
@@ -105,14 +108,16 @@ head b h z m n (at k _) = pick (nat_lt k (low b)) (nat_lt (high b) k) (if falls 
     (ap (λ p. if p then None else (if nat_lt (high b) k then None else Some (if falls b then k - b.right else b.right - k))) (sym (shift-lt k (low b))) ∙
     (ap (λ p. if nat_lt (k + 2048) (low b + 2048) then None else (if p then None else Some (if falls b then k - b.right else b.right - k))) (sym (shift-lt (high b) k)) ∙
     ap (λ p. if nat_lt (k + 2048) (low b + 2048) then None else (if nat_lt (high b + 2048) (k + 2048) then None else Some p)) (shift-place b k)))
-head b h z m n (under k _ _ e) = sym (ap (λ p. if p then None else (if nat_lt (high b + 2048) m then None else Some (if falls b then m - 2048 - b.right else b.right - (m - 2048)))) (lt-true m (low b + 2048) (omega (arith, e))))
+head b h z m n (under k _ _ e) = sym (ap (λ p. if p then None else (if nat_lt (high b + 2048) m then None else Some (if falls b then m - 2048 - b.right else b.right - (m - 2048))))
+    (lt-true m (low b + 2048) (omega (arith, e))))
 head b h z m n (far k _ _ e f) =
     pick (nat_lt k (low b)) (nat_lt (high b) k) (if falls b then k - b.right else b.right - k) ∙
     (ap (λ p. if nat_lt k (low b) then None else (if p then None else Some (if falls b then k - b.right else b.right - k))) (lt-true (high b) k (omega (arith, e, h))) ∙
     (pick-none (nat_lt k (low b)) (Some (if falls b then k - b.right else b.right - k)) ∙ sym
     (ap (λ p. if nat_lt m (low b + 2048) then None else (if p then None else Some (if falls b then m - 2048 - b.right else b.right - (m - 2048)))) (lt-true (high b + 2048) m (omega (arith, f, h))) ∙
     pick-none (nat_lt m (low b + 2048)) (Some (if falls b then m - 2048 - b.right else b.right - (m - 2048))))))
-head b h z m n (deep k _ _ e f) = sym (ap (λ p. if p then None else (if nat_lt (high b + 2048) m then None else Some (if falls b then m - 2048 - b.right else b.right - (m - 2048)))) (lt-true m (low b + 2048) (omega (arith, f))))
+head b h z m n (deep k _ _ e f) = sym (ap (λ p. if p then None else (if nat_lt (high b + 2048) m then None else Some (if falls b then m - 2048 - b.right else b.right - (m - 2048))))
+    (lt-true m (low b + 2048) (omega (arith, f))))
 
 two : {A : Type 0} (a b : A) (xs ys : List A) → a ≡ b → xs ≡ ys → a ∷ xs ≡ b ∷ ys
 two a b xs ys h k = ap (λ x. x ∷ xs) h ∙ ap (λ zs. b ∷ zs) k
@@ -146,19 +151,23 @@ is-nearby (negsuc k) n h = elim (split (nat_lt 999 k)) [
 is-lower : (z : ℤ) (n : ℕ) → n ≤ 128 → IsNear (z -ℤ pos (n - 1)) (nearby z - (n - 1)) n
 is-lower (pos k) n h = elim (split (nat_lt 70000 k)) [
   | inl t ↦ let l : 70000 < k = from-lt 70000 k t in
-      moved (pos k -ℤ pos (n - 1)) (pos (k - (n - 1))) (min k 70000 + 2048 - (n - 1)) (min k 70000 + 2048 - (n - 1)) n (omega (arith, ints, l, h)) refl (far (k - (n - 1)) (min k 70000 + 2048 - (n - 1)) n (omega (arith, l, h)) (omega (arith, l, h)))
+      moved (pos k -ℤ pos (n - 1)) (pos (k - (n - 1))) (min k 70000 + 2048 - (n - 1)) (min k 70000 + 2048 - (n - 1)) n (omega (arith, ints, l, h)) refl
+      (far (k - (n - 1)) (min k 70000 + 2048 - (n - 1)) n (omega (arith, l, h)) (omega (arith, l, h)))
   | inr t ↦ let l : k ≤ 70000 = from-not 70000 k t in elim (split (nat_lt k (n - 1))) [
     | inl u ↦ let g : k < n - 1 = from-lt k (n - 1) u in
-        moved (pos k -ℤ pos (n - 1)) (negsuc (n - 1 - k - 1)) (min k 70000 + 2048 - (n - 1)) (k + 2048 - (n - 1)) n (omega (arith, ints, g)) (omega (arith, l)) (under (n - 1 - k - 1) (k + 2048 - (n - 1)) n (omega (arith, g, h)))
+        moved (pos k -ℤ pos (n - 1)) (negsuc (n - 1 - k - 1)) (min k 70000 + 2048 - (n - 1)) (k + 2048 - (n - 1)) n (omega (arith, ints, g)) (omega (arith, l))
+        (under (n - 1 - k - 1) (k + 2048 - (n - 1)) n (omega (arith, g, h)))
     | inr u ↦ let g : n - 1 ≤ k = from-not k (n - 1) u in
         moved (pos k -ℤ pos (n - 1)) (pos (k - (n - 1))) (min k 70000 + 2048 - (n - 1)) (k - (n - 1) + 2048) n (omega (arith, ints, g)) (omega (arith, l, g)) (at (k - (n - 1)) n)
   ]
 ]
 is-lower (negsuc k) n h = elim (split (nat_lt 999 k)) [
   | inl t ↦ let l : 999 < k = from-lt 999 k t in
-      moved (negsuc k -ℤ pos (n - 1)) (negsuc (k + (n - 1))) (2047 - min k 999 - (n - 1)) (2047 - min k 999 - (n - 1)) n (omega (arith, ints)) refl (deep (k + (n - 1)) (2047 - min k 999 - (n - 1)) n (omega (arith, l, h)) (omega (arith, l, h)))
+      moved (negsuc k -ℤ pos (n - 1)) (negsuc (k + (n - 1))) (2047 - min k 999 - (n - 1)) (2047 - min k 999 - (n - 1)) n (omega (arith, ints)) refl
+      (deep (k + (n - 1)) (2047 - min k 999 - (n - 1)) n (omega (arith, l, h)) (omega (arith, l, h)))
   | inr t ↦ let l : k ≤ 999 = from-not 999 k t in
-      moved (negsuc k -ℤ pos (n - 1)) (negsuc (k + (n - 1))) (2047 - min k 999 - (n - 1)) (2047 - min k 999 - (n - 1)) n (omega (arith, ints)) refl (under (k + (n - 1)) (2047 - min k 999 - (n - 1)) n (omega (arith, l, h)))
+      moved (negsuc k -ℤ pos (n - 1)) (negsuc (k + (n - 1))) (2047 - min k 999 - (n - 1)) (2047 - min k 999 - (n - 1)) n (omega (arith, ints)) refl
+      (under (k + (n - 1)) (2047 - min k 999 - (n - 1)) n (omega (arith, l, h)))
 ]
 
 high-most : (c : Const) → c.left ≤ 65535 → c.right ≤ 65535 → high (bounds_of c) ≤ 65535

@@ -88,7 +88,8 @@ is-good b l r f g h k =
     let lv : f.word.value ≡ own_value l.shown.reading.meaning nowhere = same-value l f h in
     let rv : g.word.value ≡ own_value r.shown.reading.meaning nowhere = same-value r g k in
     four _ _ _ _ _ _ _ _ (is-bound l f h) (is-bound r g k) (ap (λ n. is_in_order b n g.word.value) lv ∙ ap (is_in_order b (own_value l.shown.reading.meaning nowhere)) rv)
-    (ap (λ n. is_width (max n g.word.value - min n g.word.value + 1)) lv ∙ ap (λ n. is_width (max (own_value l.shown.reading.meaning nowhere) n - min (own_value l.shown.reading.meaning nowhere) n + 1)) rv)
+    (ap (λ n. is_width (max n g.word.value - min n g.word.value + 1)) lv ∙
+    ap (λ n. is_width (max (own_value l.shown.reading.meaning nowhere) n - min (own_value l.shown.reading.meaning nowhere) n + 1)) rv)
 
 -- ---- the node of a constant with one select
 
@@ -141,7 +142,8 @@ module _ (names : Names) (path : Path) (c : Const) (known : names path ≡ Some 
     some = h.some;
     most = h.most;
     constant = one-constant h.constant;
-    sound = λ fixed W T. sound-node (site_of names (Expr-F.Name path (s ∷ [])) (read_role joined) fixed W T) (below_sites (Expr-F.Name path (s ∷ [])) (read_role joined) fixed W T) (faultless joined fixed W T h)
+    sound = λ fixed W T. sound-node (site_of names (Expr-F.Name path (s ∷ [])) (read_role joined) fixed W T) (below_sites (Expr-F.Name path (s ∷ [])) (read_role joined) fixed W T)
+        (faultless joined fixed W T h)
         (subst Sound (sym (one-sites joined fixed W T)) (sound-both (step_sites false fixed s) [] (h.sound fixed) sound-none));
   }
 
@@ -178,7 +180,8 @@ module _ (names : Names) (path : Path) (c : Const) (known : names path ≡ Some 
         some = is-width_some _ w;
         most = is-width_most _ w;
         constant = two-true _ _ h.own.constant k.own.constant;
-        sound = λ fixed. sound-both (fixed_sites a) (fixed_sites b) (h.own.sound (Some (first_place a.shown)) (width_at a) (signed_at a)) (k.own.sound (Some (first_place b.shown)) (width_at b) (signed_at b));
+        sound = λ fixed. sound-both (fixed_sites a) (fixed_sites b) (h.own.sound (Some (first_place a.shown)) (width_at a) (signed_at a))
+            (k.own.sound (Some (first_place b.shown)) (width_at b) (signed_at b));
       }
 
   part-count : (a b : Walk) (f g : Full) → HasFull a false f → HasFull b false g → count_at (Select-F.Part a b) ≡ max f.word.value g.word.value - min f.word.value g.word.value + 1
@@ -191,20 +194,23 @@ module _ (names : Names) (path : Path) (c : Const) (known : names path ≡ Some 
   part-told_second : (a b : Walk) (y : ConstError) → HasNoFull b false y → HasNoOwn (walk_step names (Expr-F.Name path (Select-F.Part a b ∷ []))) joined y
   part-told_second a b y h = pick-told names path c known (Select-F.Part a b) joined y (λ fixed. told-second (fixed_sites a) (fixed_sites b) y (h.told (Some (first_place b.shown))))
 
-  part-bad : (a b : Walk) (f g : Full) → HasFull a false f → HasFull b false g → is_part (bounds_of c) f g ≡ false → HasNoOwn (walk_step names (Expr-F.Name path (Select-F.Part a b ∷ []))) joined (x.Range path.place)
+  part-bad : (a b : Walk) (f g : Full) → HasFull a false f → HasFull b false g → is_part (bounds_of c) f g ≡ false →
+      HasNoOwn (walk_step names (Expr-F.Name path (Select-F.Part a b ∷ []))) joined (x.Range path.place)
   part-bad a b f g h k e = pick-bad names path c known (Select-F.Part a b) joined (sym (is-good (bounds_of c) a b f g h k) ∙ e)
 
   pub own-part : (a b : Walk) (r q : Valued) → IsFull a false r → IsFull b false q → IsOwn (walk_step names (Expr-F.Name path (Select-F.Part a b ∷ []))) joined (part_own c path.place r q)
   own-part a b (Err y) q h g = record { right = tt; wrong = part-told_first a b y h.wrong }
   own-part a b (Ok f) (Err y) h g = record { right = tt; wrong = part-told_second a b y g.wrong }
   own-part a b (Ok e) (Ok f) h g = elim (split (is_part (bounds_of c) e f)) [
-    | inl k ↦ subst (λ t. IsOwn (walk_step names (Expr-F.Name path (Select-F.Part a b ∷ []))) joined (cond t (Ok (record { width = max e.word.value f.word.value - min e.word.value f.word.value + 1; signed = false })) (Err (x.Range path.place)))) (sym k)
+    | inl k ↦ subst (λ t. IsOwn (walk_step names (Expr-F.Name path (Select-F.Part a b ∷ []))) joined
+        (cond t (Ok (record { width = max e.word.value f.word.value - min e.word.value f.word.value + 1; signed = false })) (Err (x.Range path.place)))) (sym k)
         (record {
           right = subst (λ n. HasOwn (walk_step names (Expr-F.Name path (Select-F.Part a b ∷ []))) joined (record { width = n; signed = false })) (part-count a b e f h.right g.right)
               (pick-own names path c known (Select-F.Part a b) joined (part-sound a b e f h.right g.right k));
           wrong = tt;
         })
-    | inr k ↦ subst (λ t. IsOwn (walk_step names (Expr-F.Name path (Select-F.Part a b ∷ []))) joined (cond t (Ok (record { width = max e.word.value f.word.value - min e.word.value f.word.value + 1; signed = false })) (Err (x.Range path.place)))) (sym k)
+    | inr k ↦ subst (λ t. IsOwn (walk_step names (Expr-F.Name path (Select-F.Part a b ∷ []))) joined
+        (cond t (Ok (record { width = max e.word.value f.word.value - min e.word.value f.word.value + 1; signed = false })) (Err (x.Range path.place)))) (sym k)
         (record { right = tt; wrong = part-bad a b e f h.right g.right k })
   ]
 
@@ -237,19 +243,22 @@ module _ (names : Names) (path : Path) (c : Const) (known : names path ≡ Some 
     some = subst (λ n. 1 ≤ n) (run-count up a b f k) (is-width_some _ w);
     most = subst (λ n. n ≤ 128) (run-count up a b f k) (is-width_most _ w);
     constant = run-constant up a b h.constant k.own.constant;
-    sound = λ fixed. subst Sound (sym (run-sites up a b fixed)) (sound-both _ (fixed_sites b) (h.sound fixed (width_at a) (signed_at a)) (k.own.sound (Some (first_place b.shown)) (width_at b) (signed_at b)));
+    sound = λ fixed. subst Sound (sym (run-sites up a b fixed))
+        (sound-both _ (fixed_sites b) (h.sound fixed (width_at a) (signed_at a)) (k.own.sound (Some (first_place b.shown)) (width_at b) (signed_at b)));
   }
 
   run-told_first : (up : Bool) (a b : Walk) (y : ConstError) → ((fixed : Option ℕ) → Told (own_sites Value fixed a) y) → HasNoOwn (walk_step names (Expr-F.Name path (run_step up a b ∷ []))) joined y
   run-told_first up a b y h = pick-told names path c known (run_step up a b) joined y (λ fixed. subst (λ ss. Told ss y) (sym (run-sites up a b fixed)) (told-first _ (fixed_sites b) y (h fixed)))
 
   run-told_second : (up : Bool) (a b : Walk) (y : ConstError) → HasNoFull b false y → HasNoOwn (walk_step names (Expr-F.Name path (run_step up a b ∷ []))) joined y
-  run-told_second up a b y h = pick-told names path c known (run_step up a b) joined y (λ fixed. subst (λ ss. Told ss y) (sym (run-sites up a b fixed)) (told-second _ (fixed_sites b) y (h.told (Some (first_place b.shown)))))
+  run-told_second up a b y h = pick-told names path c known (run_step up a b) joined y
+      (λ fixed. subst (λ ss. Told ss y) (sym (run-sites up a b fixed)) (told-second _ (fixed_sites b) y (h.told (Some (first_place b.shown)))))
 
   run-bad : (up : Bool) (a b : Walk) (f : Full) → HasFull b false f → is_run f ≡ false → HasNoOwn (walk_step names (Expr-F.Name path (run_step up a b ∷ []))) joined (x.Range path.place)
   run-bad up a b f k e = pick-bad names path c known (run_step up a b) joined (run-good up a b ∙ (sym (is-run b f k) ∙ e))
 
-  pub own-run : (up : Bool) (a b : Walk) (r : Owned) (q : Valued) → IsOwn a false r → IsFull b false q → IsOwn (walk_step names (Expr-F.Name path (run_step up a b ∷ []))) joined (run_own path.place r q)
+  pub own-run : (up : Bool) (a b : Walk) (r : Owned) (q : Valued) → IsOwn a false r → IsFull b false q →
+      IsOwn (walk_step names (Expr-F.Name path (run_step up a b ∷ []))) joined (run_own path.place r q)
   own-run up a b (Err y) q h g = record { right = tt; wrong = run-told_first up a b y (λ fixed. h.wrong.told fixed (width_at a) (signed_at a)) }
   own-run up a b (Ok o) (Err y) h g = record { right = tt; wrong = run-told_second up a b y g.wrong }
   own-run up a b (Ok o) (Ok f) h g = elim (split (is_run f)) [
@@ -278,44 +287,55 @@ module _ (names : Names) (path : Path) (c : Const) (known : names path ≡ Some 
       ((fixed : Option ℕ) → Divides (step_sites false fixed s)) → HasPlain (walk_step names (Expr-F.Name path (s ∷ []))) joined (bits_at c from n)
   picked s from n h e l d = plain-node names joined (Expr-F.Name path (s ∷ [])) (bits_at c from n) refl
       (subst (λ k. HasOwn (walk_step names (Expr-F.Name path (s ∷ []))) joined (record { width = k; signed = false })) e (pick-own names path c known s joined h))
-      (λ W T v. rw known (ap (λ k. extended T k W (read_bits c.word.value (bits_from (bounds_of c) (lowest (meant (chosen_step s)) v) (count_at s)))) (length-from (bounds_of c) (lowest (meant (chosen_step s)) nowhere) (count_at s) ∙ e) ∙
+      (λ W T v. rw known (ap (λ k. extended T k W (read_bits c.word.value (bits_from (bounds_of c) (lowest (meant (chosen_step s)) v) (count_at s))))
+      (length-from (bounds_of c) (lowest (meant (chosen_step s)) nowhere) (count_at s) ∙ e) ∙
       (ap (λ z. extended T n W (read_bits c.word.value (bits_from (bounds_of c) z (count_at s)))) (sym (l v)) ∙ ap (λ k. extended T n W (read_bits c.word.value (bits_from (bounds_of c) from k))) e)))
       (subst (λ k. read_bits c.word.value (bits_from (bounds_of c) from n) < 2 ^ k) (length-from (bounds_of c) from n) (read-lt c.word.value (bits_from (bounds_of c) from n)))
       (λ j fixed W T. subst Divides (sym (one-sites names path c known s j fixed W T)) (divides-both (step_sites false fixed s) [] (d fixed) divides-none))
 
   pub value-bit : (a : Walk) (r : Valued) → IsFull a false r → IsPlain (walk_step names (Expr-F.Name path (Select-F.Bit a ∷ []))) joined (bit_full c r)
   value-bit a (Ok f) h = record {
-    right = picked (Select-F.Bit a) (number_at f) 1 (bit-sound names path c known joined a (record { width = f.word.width; signed = f.signed }) h.right.own) refl (λ v. same-number a f h.right v) (λ fixed. full-divided a false f h.right false fixed);
+    right = picked (Select-F.Bit a) (number_at f) 1 (bit-sound names path c known joined a (record { width = f.word.width; signed = f.signed }) h.right.own) refl
+        (λ v. same-number a f h.right v) (λ fixed. full-divided a false f h.right false fixed);
     wrong = tt;
   }
   value-bit a (Err y) h = record { right = tt; wrong = pick-told names path c known (Select-F.Bit a) joined y (λ fixed. h.wrong.told fixed) }
 
-  part-low : (a b : Walk) (f g : Full) → HasFull a false f → HasFull b false g → pos (min f.word.value g.word.value) ≡ pos (min (own_value a.shown.reading.meaning nowhere) (own_value b.shown.reading.meaning nowhere))
+  part-low : (a b : Walk) (f g : Full) → HasFull a false f → HasFull b false g →
+      pos (min f.word.value g.word.value) ≡ pos (min (own_value a.shown.reading.meaning nowhere) (own_value b.shown.reading.meaning nowhere))
   part-low a b f g h k = ap (λ n. pos (min n g.word.value)) (same-value a f h) ∙ ap (λ n. pos (min (own_value a.shown.reading.meaning nowhere) n)) (same-value b g k)
 
   pub value-part : (a b : Walk) (r q : Valued) → IsFull a false r → IsFull b false q → IsPlain (walk_step names (Expr-F.Name path (Select-F.Part a b ∷ []))) joined (part_full c path.place r q)
   value-part a b (Err y) q h g = record { right = tt; wrong = part-told_first names path c known joined a b y h.wrong }
   value-part a b (Ok f) (Err y) h g = record { right = tt; wrong = part-told_second names path c known joined a b y g.wrong }
   value-part a b (Ok e) (Ok f) h g = elim (split (is_part (bounds_of c) e f)) [
-    | inl k ↦ subst (λ t. IsPlain (walk_step names (Expr-F.Name path (Select-F.Part a b ∷ []))) joined (cond t (Ok (bits_at c (pos (min e.word.value f.word.value)) (max e.word.value f.word.value - min e.word.value f.word.value + 1))) (Err (x.Range path.place)))) (sym k)
+    | inl k ↦ subst (λ t. IsPlain (walk_step names (Expr-F.Name path (Select-F.Part a b ∷ []))) joined
+        (cond t (Ok (bits_at c (pos (min e.word.value f.word.value)) (max e.word.value f.word.value - min e.word.value f.word.value + 1))) (Err (x.Range path.place)))) (sym k)
         (record {
-          right = picked (Select-F.Part a b) (pos (min e.word.value f.word.value)) (max e.word.value f.word.value - min e.word.value f.word.value + 1) (part-sound names path c known joined a b e f h.right g.right k)
+          right = picked (Select-F.Part a b) (pos (min e.word.value f.word.value)) (max e.word.value f.word.value - min e.word.value f.word.value + 1)
+              (part-sound names path c known joined a b e f h.right g.right k)
               (part-count names path c known joined a b e f h.right g.right) (λ v. part-low a b e f h.right g.right)
               (λ fixed. divides-both _ _ (full-divided a false e h.right false (Some (first_place a.shown))) (full-divided b false f g.right false (Some (first_place b.shown))));
           wrong = tt;
         })
-    | inr k ↦ subst (λ t. IsPlain (walk_step names (Expr-F.Name path (Select-F.Part a b ∷ []))) joined (cond t (Ok (bits_at c (pos (min e.word.value f.word.value)) (max e.word.value f.word.value - min e.word.value f.word.value + 1))) (Err (x.Range path.place)))) (sym k)
+    | inr k ↦ subst (λ t. IsPlain (walk_step names (Expr-F.Name path (Select-F.Part a b ∷ []))) joined
+        (cond t (Ok (bits_at c (pos (min e.word.value f.word.value)) (max e.word.value f.word.value - min e.word.value f.word.value + 1))) (Err (x.Range path.place)))) (sym k)
         (record { right = tt; wrong = part-bad names path c known joined a b e f h.right g.right k })
   ]
 
   run-divides : (up : Bool) (a b : Walk) (e f : Full) → HasFull a false e → HasFull b false f → (fixed : Option ℕ) → Divides (step_sites false fixed (run_step up a b))
-  run-divides up a b e f h k fixed = subst Divides (sym (run-sites names path c known joined up a b fixed)) (divides-both _ _ (full-divided a false e h false fixed) (full-divided b false f k false (Some (first_place b.shown))))
+  run-divides up a b e f h k fixed = subst Divides (sym (run-sites names path c known joined up a b fixed))
+      (divides-both _ _ (full-divided a false e h false fixed) (full-divided b false f k false (Some (first_place b.shown))))
 
   run-full : (up : Bool) (a b : Walk) (e f : Full) (from : ℤ) → HasFull a false e → HasFull b false f → ((v : Valuation) → from ≡ lowest (meant (chosen_step (run_step up a b))) v) →
       IsPlain (walk_step names (Expr-F.Name path (run_step up a b ∷ []))) joined (cond (is_run f) (Ok (bits_at c from f.word.value)) (Err (x.Range path.place)))
   run-full up a b e f from h k l = elim (split (is_run f)) [
     | inl t ↦ subst (λ t. IsPlain (walk_step names (Expr-F.Name path (run_step up a b ∷ []))) joined (cond t (Ok (bits_at c from f.word.value)) (Err (x.Range path.place)))) (sym t)
-        (record { right = picked (run_step up a b) from f.word.value (run-sound names path c known joined up a b (record { width = e.word.width; signed = e.signed }) f h.own k t) (sym (run-count names path c known joined up a b f k)) l (run-divides up a b e f h k); wrong = tt })
+        (record {
+          right = picked (run_step up a b) from f.word.value (run-sound names path c known joined up a b (record { width = e.word.width; signed = e.signed }) f h.own k t)
+              (sym (run-count names path c known joined up a b f k)) l (run-divides up a b e f h k);
+          wrong = tt;
+        })
     | inr t ↦ subst (λ t. IsPlain (walk_step names (Expr-F.Name path (run_step up a b ∷ []))) joined (cond t (Ok (bits_at c from f.word.value)) (Err (x.Range path.place)))) (sym t)
         (record { right = tt; wrong = run-bad names path c known joined up a b f k t })
   ]

@@ -24,8 +24,12 @@ module _ (names : Names) where
     fold-reads (e.Div' n a m b) = two-same (λ r q. reading (divided quotient r.meaning q.meaning) (r ∷ q ∷ [])) (fold-one a) (fold-one b)
     fold-reads (e.Rem' n a m b) = two-same (λ r q. reading (divided remainder r.meaning q.meaning) (r ∷ q ∷ [])) (fold-one a) (fold-one b)
     fold-reads (e.Cond' n c m a k b) =
-        ap (λ r. reading (chosen r.meaning (fold_one Walk WalkStep (walk_step names) walk_select_step a).shown.reading.meaning (fold_one Walk WalkStep (walk_step names) walk_select_step b).shown.reading.meaning) (r ∷ (fold_one Walk WalkStep (walk_step names) walk_select_step a).shown.reading ∷ (fold_one Walk WalkStep (walk_step names) walk_select_step b).shown.reading ∷ [])) (fold-one c) ∙
-        two-same (λ r q. reading (chosen (fold_one Reading Choice (read_step names) choice c).meaning r.meaning q.meaning) (fold_one Reading Choice (read_step names) choice c ∷ r ∷ q ∷ [])) (fold-one a) (fold-one b)
+        ap (λ r. reading (chosen r.meaning (fold_one Walk WalkStep (walk_step names) walk_select_step a).shown.reading.meaning
+        (fold_one Walk WalkStep (walk_step names) walk_select_step b).shown.reading.meaning)
+        (r ∷ (fold_one Walk WalkStep (walk_step names) walk_select_step a).shown.reading ∷ (fold_one Walk WalkStep (walk_step names) walk_select_step b).shown.reading ∷ []))
+        (fold-one c) ∙
+        two-same (λ r q. reading (chosen (fold_one Reading Choice (read_step names) choice c).meaning r.meaning q.meaning)
+        (fold_one Reading Choice (read_step names) choice c ∷ r ∷ q ∷ [])) (fold-one a) (fold-one b)
     fold-reads (e.Cat' n es) = ap (λ rs. reading (concatenated (meanings rs)) rs) (fold-all es)
     fold-reads (e.Rep' n a m es) = two-same (λ r rs. reading (replicated r.meaning (meanings rs)) (r ∷ rs)) (fold-one a) (fold-all es)
     fold-reads (e.Cast' signed n a) = ap (λ r. reading (cast signed r.meaning) (r ∷ [])) (fold-one a)
@@ -34,7 +38,8 @@ module _ (names : Names) where
     fold-one end_of-Expr = refl
     fold-one (more_of-Expr x xs) = fold-reads x
 
-    fold-all : {n : _} (r : Row_of-Expr n) → map (λ r. r.reading) (map (λ w. w.shown) (fold_exprs Walk WalkStep (walk_step names) walk_select_step r)) ≡ fold_exprs Reading Choice (read_step names) choice r
+    fold-all : {n : _} (r : Row_of-Expr n) → map (λ r. r.reading) (map (λ w. w.shown) (fold_exprs Walk WalkStep (walk_step names) walk_select_step r)) ≡ fold_exprs Reading Choice
+        (read_step names) choice r
     fold-all end_of-Expr = refl
     fold-all (more_of-Expr x xs) = two-same (λ r rs. r ∷ rs) (fold-reads x) (fold-all xs)
 
@@ -44,7 +49,8 @@ module _ (names : Names) where
     fold-choice (s.Up' n a m b) = two-same (λ r q. Select-F.Up r q) (fold-one a) (fold-one b)
     fold-choice (s.Down' n a m b) = two-same (λ r q. Select-F.Down r q) (fold-one a) (fold-one b)
 
-    fold-selects : {n : _} (r : Row_of-Select n) → map step_choice (map step_shown (fold_selects Walk WalkStep (walk_step names) walk_select_step r)) ≡ fold_selects Reading Choice (read_step names) choice r
+    fold-selects : {n : _} (r : Row_of-Select n) → map step_choice (map step_shown (fold_selects Walk WalkStep (walk_step names) walk_select_step r)) ≡ fold_selects Reading Choice
+        (read_step names) choice r
     fold-selects end_of-Select = refl
     fold-selects (more_of-Select x xs) = two-same (λ r rs. r ∷ rs) (fold-choice x) (fold-selects xs)
 

@@ -93,12 +93,14 @@ own_pick-returns-in-Part t c =
 pub own_pick-returns-in-Up : goal.own_pick-returns-in-Up
 own_pick-returns-in-Up t c =
     let names = names_of c.args.consts.now in
-    arm.own-Up names c.args.path.now c.args.constant.now c.args.selects.now _ _ _ _ _ _ _ (omega arith) c.index-selects-0.is c.in-Up.is c.get-in-Up.ensures c.own-from.ensures c.full.ensures c.run_own.ensures
+    arm.own-Up names c.args.path.now c.args.constant.now c.args.selects.now _ _ _ _ _ _ _
+    (omega arith) c.index-selects-0.is c.in-Up.is c.get-in-Up.ensures c.own-from.ensures c.full.ensures c.run_own.ensures
 
 pub own_pick-returns-in-Down : goal.own_pick-returns-in-Down
 own_pick-returns-in-Down t c =
     let names = names_of c.args.consts.now in
-    arm.own-Down names c.args.path.now c.args.constant.now c.args.selects.now _ _ _ _ _ _ _ (omega arith) c.index-selects-0.is c.in-Down.is c.get-in-Down.ensures c.own-from-in-Down.ensures c.full-in-Down.ensures c.run_own-in-Down.ensures
+    arm.own-Down names c.args.path.now c.args.constant.now c.args.selects.now _ _ _ _ _ _ _
+    (omega arith) c.index-selects-0.is c.in-Down.is c.get-in-Down.ensures c.own-from-in-Down.ensures c.full-in-Down.ensures c.run_own-in-Down.ensures
 
 pub value_pick-returns-in-Bit : goal.value_pick-returns-in-Bit
 value_pick-returns-in-Bit t c =
@@ -118,7 +120,8 @@ value_pick-returns-in-Up t c =
 pub value_pick-returns-in-Down : goal.value_pick-returns-in-Down
 value_pick-returns-in-Down t c =
     let names = names_of c.args.consts.now in
-    arm.full-Down names c.args.path.now c.args.constant.now c.args.selects.now _ _ _ _ _ _ (omega arith) c.index-selects-0.is c.in-Down.is c.full-from-in-Down.ensures c.full-count-in-Down.ensures c.down_full.ensures
+    arm.full-Down names c.args.path.now c.args.constant.now c.args.selects.now _ _ _ _ _ _
+    (omega arith) c.index-selects-0.is c.in-Down.is c.full-from-in-Down.ensures c.full-count-in-Down.ensures c.down_full.ensures
 
 pub value-returns-in-Lit : goal.value-returns-in-Lit
 value-returns-in-Lit t c =
@@ -148,27 +151,32 @@ value-returns-then-keeps_width t c =
 pub value-returns-else-keeps_width : goal.value-returns-else-keeps_width
 value-returns-else-keeps_width t c =
     let names = names_of c.args.consts.now in
-    arm.value-Un_bit names c.args.joined c.args.reach _ _ _ _ _ _ c.in-Un.is c.requires (sym c.keeps_width.ensures ∙ c.if-keeps_width.false) c.full-part.ensures c.unary_bit.ensures c.placed-else-keeps_width.ensures
+    arm.value-Un_bit names c.args.joined c.args.reach _ _ _ _ _ _ c.in-Un.is c.requires
+    (sym c.keeps_width.ensures ∙ c.if-keeps_width.false) c.full-part.ensures c.unary_bit.ensures c.placed-else-keeps_width.ensures
 
 pub value-returns-then-keeps_width-2 : goal.value-returns-then-keeps_width-2
 value-returns-then-keeps_width-2 t c =
     let names = names_of c.args.consts.now in
-    arm.value-shift names c.args.joined c.args.reach _ _ _ _ _ _ _ _ c.in-Bin.is c.get-then-keeps_width-2.ensures (sym c.keeps_width-then-is_apart.ensures ∙ c.if-keeps_width-2.true) (sym c.is_apart.ensures ∙ c.if-is_apart.true) c.value-then-keeps_width-2.ensures c.full-right.ensures c.shifted.ensures
+    arm.value-shift names c.args.joined c.args.reach _ _ _ _ _ _ _ _ c.in-Bin.is c.get-then-keeps_width-2.ensures (sym c.keeps_width-then-is_apart.ensures ∙ c.if-keeps_width-2.true)
+    (sym c.is_apart.ensures ∙ c.if-is_apart.true) c.value-then-keeps_width-2.ensures c.full-right.ensures c.shifted.ensures
 
 pub value-returns-else-keeps_width-2 : goal.value-returns-else-keeps_width-2
 value-returns-else-keeps_width-2 t c =
     let names = names_of c.args.consts.now in
-    arm.value-logical names c.args.joined c.args.reach _ _ _ _ _ _ _ _ c.in-Bin.is c.requires (sym c.keeps_width-then-is_apart.ensures ∙ c.if-keeps_width-2.false) (sym c.is_apart.ensures ∙ c.if-is_apart.true) c.full-left.ensures c.full-right.ensures c.logical.ensures c.placed-else-keeps_width-2.ensures
+    arm.value-logical names c.args.joined c.args.reach _ _ _ _ _ _ _ _ c.in-Bin.is c.requires (sym c.keeps_width-then-is_apart.ensures ∙ c.if-keeps_width-2.false)
+    (sym c.is_apart.ensures ∙ c.if-is_apart.true) c.full-left.ensures c.full-right.ensures c.logical.ensures c.placed-else-keeps_width-2.ensures
 
 pub value-returns-then-keeps_width-3 : goal.value-returns-then-keeps_width-3
 value-returns-then-keeps_width-3 t c =
     let names = names_of c.args.consts.now in
-    arm.value-arithmetic names c.args.joined c.args.reach _ _ _ _ _ _ c.in-Bin.is (sym c.keeps_width-else-is_apart.ensures ∙ c.if-keeps_width-3.true) (sym c.is_apart.ensures ∙ c.if-is_apart.false) c.pair.ensures c.arithmetic.ensures
+    arm.value-arithmetic names c.args.joined c.args.reach _ _ _ _ _ _ c.in-Bin.is (sym c.keeps_width-else-is_apart.ensures ∙ c.if-keeps_width-3.true)
+    (sym c.is_apart.ensures ∙ c.if-is_apart.false) c.pair.ensures c.arithmetic.ensures
 
 pub value-returns-else-keeps_width-3 : goal.value-returns-else-keeps_width-3
 value-returns-else-keeps_width-3 t c =
     let names = names_of c.args.consts.now in
-    arm.value-compared names c.args.joined c.args.reach _ _ _ _ _ _ _ _ c.in-Bin.is c.requires (sym c.keeps_width-else-is_apart.ensures ∙ c.if-keeps_width-3.false) (sym c.is_apart.ensures ∙ c.if-is_apart.false) c.alone.ensures c.pair-else-keeps_width-3.ensures c.compared.ensures c.placed-else-keeps_width-3.ensures
+    arm.value-compared names c.args.joined c.args.reach _ _ _ _ _ _ _ _ c.in-Bin.is c.requires (sym c.keeps_width-else-is_apart.ensures ∙ c.if-keeps_width-3.false)
+    (sym c.is_apart.ensures ∙ c.if-is_apart.false) c.alone.ensures c.pair-else-keeps_width-3.ensures c.compared.ensures c.placed-else-keeps_width-3.ensures
 
 pub value-returns-in-Div : goal.value-returns-in-Div
 value-returns-in-Div t c =
@@ -233,12 +241,14 @@ full-returns t c =
 pub values-returns-in-Err : goal.values-returns-in-Err
 values-returns-in-Err t c =
     let names = names_of c.args.consts.now in
-    arm.joint_wrong names c.args.exprs.now c.loop-expr.expr-index c.expr-item.result c.args.place c.loop-expr.joint _ _ _ c.loop-expr-test.true (sym c.expr-item.is) c.loop-expr.invariant c.alone.ensures c.value-operand.ensures (sym c.in-Err.ensures)
+    arm.joint_wrong names c.args.exprs.now c.loop-expr.expr-index c.expr-item.result c.args.place c.loop-expr.joint _ _ _ c.loop-expr-test.true
+    (sym c.expr-item.is) c.loop-expr.invariant c.alone.ensures c.value-operand.ensures (sym c.in-Err.ensures)
 
 pub values-loop-expr-preserved : goal.values-loop-expr-preserved
 values-loop-expr-preserved t c =
     let names = names_of c.args.consts.now in
-    arm.joint_more names c.args.exprs.now c.loop-expr.expr-index c.expr-item.result c.args.place c.loop-expr.joint _ _ _ c.loop-expr-test.true (sym c.expr-item.is) c.loop-expr.invariant c.alone.ensures c.value-operand.ensures (sym c.in-Ok.ensures)
+    arm.joint_more names c.args.exprs.now c.loop-expr.expr-index c.expr-item.result c.args.place c.loop-expr.joint _ _ _ c.loop-expr-test.true
+    (sym c.expr-item.is) c.loop-expr.invariant c.alone.ensures c.value-operand.ensures (sym c.in-Ok.ensures)
 
 pub values-returns-in-None : goal.values-returns-in-None
 values-returns-in-None t c =

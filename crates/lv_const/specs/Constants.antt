@@ -25,8 +25,6 @@ constant_of name c = record {
   signed = c.signed;
   array = None;
   sort = Constant c.word.value;
-  place = 0;
-  early = true;
 }
 
 abbrev pub declared_of : Name → Option Const → Option Declared

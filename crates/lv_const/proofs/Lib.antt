@@ -1,0 +1,16 @@
+pub mod Arms
+pub mod Division
+pub mod Heads
+pub mod Latest
+pub mod Leaves
+pub mod Lists
+pub mod Numbers
+pub mod Owns
+pub mod Plains
+pub mod Publics
+pub mod Reached
+pub mod Runs
+pub mod Selects
+pub mod Told
+pub mod WalkReads
+pub mod Walks

@@ -1,0 +1,9 @@
+pub mod Answers
+pub mod Constants
+pub mod Faults
+pub mod Joins
+pub mod Picks
+pub mod Places
+pub mod Public
+pub mod Signs
+pub mod Widths

@@ -1,0 +1,39 @@
+ghost use Rattle.std.specs.Prelude.{◌≡◌, ◌≤◌};
+ghost use Rattle.lv_source.specs.Meaning.{own_width};
+ghost use Rattle.lv_const.specs.Constants.{names_of};
+ghost use Rattle.lv_const.specs.Public.{IsOwnAnswer, IsValueAnswer};
+
+use crate::consts::Consts;
+use crate::error::ConstError;
+use crate::expr::{own, value};
+use crate::full::Reach;
+use lv_ast::Expr;
+use lv_bits::Word;
+
+/// The own width and own type of a constant expression. It takes no memory.
+pub fn own_of(consts: &Consts, expr: &Expr) -> Result<(u32, bool), ConstError>
+    ensures { IsOwnAnswer (names_of consts.now) expr.now result }
+{
+    match own(consts, expr, false) {
+        Err(error) => Err(error),
+        Ok(own) => Ok((own.width, own.signed)),
+    }
+}
+
+/// The value of a constant expression at a width and a type. It takes no memory.
+pub fn value_of(consts: &Consts, expr: &Expr, width: u32, signed: bool) -> Result<Word, ConstError>
+    requires some { 1 ≤ width }
+    requires most { width ≤ 128 }
+    requires wide { own_width (names_of consts.now) expr.now ≤ width }
+    ensures { IsValueAnswer (names_of consts.now) expr.now width signed result }
+{
+    let reach = Reach {
+        least: width,
+        signed,
+        fixed: true,
+    };
+    match value(consts, expr, false, reach) {
+        Err(error) => Err(error),
+        Ok(full) => Ok(full.word),
+    }
+}

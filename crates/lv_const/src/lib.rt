@@ -1,0 +1,21 @@
+//! Constant expressions (IEEE 1364-2005, sections 4.1 and 5.4): their own width, own type and value, without taking memory.
+#![tactic(auto)]
+
+mod calls;
+mod constant;
+mod consts;
+mod error;
+mod expr;
+mod full;
+mod own;
+mod pair;
+mod picks;
+mod place;
+mod signs;
+mod values;
+mod weight;
+
+pub use calls::{own_of, value_of};
+pub use constant::Const;
+pub use consts::{Consts, Entry};
+pub use error::ConstError;

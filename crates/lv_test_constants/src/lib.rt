@@ -1,0 +1,5 @@
+//! Tests of constant expressions: widths, types, values and refusals, as rows of texts.
+#![tactic(auto)]
+
+#[cfg(test)]
+mod rows;

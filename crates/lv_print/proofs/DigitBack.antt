@@ -122,8 +122,11 @@ pub digits_all : (p : ℕ → Bool) (base k n : ℕ) → 2 ≤ base → check_be
 digits_all p base zero n low h = ap (list_all p) (digits-none base 0 n refl)
 digits_all p base (suc k) n low h =
     let r : n % base < base = mod-lt n {m = base} (omega (arith, low)) in
-    let inner : list_all p (before base k n) ≡ true = elim (nat_lt n base) as (λ b. list_all p (if b then [] else digits base k (n / base)) ≡ true) [ true ↦ refl | false ↦ digits_all p base
-        k (n / base) low h ] in
+    let inner : list_all p (before base k n) ≡ true = elim (nat_lt n base) as (λ b. list_all p (if b then [] else digits base k (n / base)) ≡ true) [
+      | true ↦ refl
+      | false ↦ digits_all p base
+          k (n / base) low h
+    ] in
     ap (list_all p) (last base k n) ∙ list_all-append p (before base k n) (glyph (n % base) ∷ []) ∙ ap (λ z. z && (p (glyph (n % base)) && true)) inner ∙
     ap (λ z. z && true) (checked (λ d. p (glyph d)) base (n % base) h r)
 

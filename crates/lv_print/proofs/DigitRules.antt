@@ -48,7 +48,7 @@ pub digits-before : (base k n : ℕ) (b c p q : List ℕ) (g : ℕ) → 0 < k �
 digits-before base k n b c p q g h l e f i j =
     let t : nat_lt n base ≡ false = le-ltb n base l in
     let m : digits base k n ≡ digits base (k - 1) (n / base) ++ (glyph (n % base) ∷ []) = digits-more base k n h ∙
-        ap (λ z. (if z then [] else digits base (k - 1) (n / base)) ++ (glyph (n % base) ∷ [])) t in
+    ap (λ z. (if z then [] else digits base (k - 1) (n / base)) ++ (glyph (n % base) ∷ [])) t in
     j ∙ i ∙ ap (λ z. z ++ (g ∷ [])) e ∙ append_assoc b (digits base (k - 1) (n / base)) (g ∷ []) ∙ ap (λ z. b ++ (digits base (k - 1) (n / base) ++ (z ∷ []))) f ∙ ap (λ z. b ++ z) (sym m)
 
 pub free-end : (k v w : ℕ) (b : List ℕ) → k ≡ 0 → b ≡ b ++ free_digits k v w
@@ -57,7 +57,7 @@ free-end k v w b h = sym (ap (λ z. b ++ z) (free_digits-none k v w h) ∙ appen
 pub free-before : (k v w : ℕ) (b c p : List ℕ) (g : ℕ) → 0 < k → c ≡ b ++ free_digits (k - 1) (v / 2) (w / 2) → g ≡ free_glyph v w → p ≡ c ++ (g ∷ []) → p ≡ b ++ free_digits k v w
 free-before k v w b c p g h e f i =
     i ∙ ap (λ z. z ++ (g ∷ [])) e ∙ append_assoc b (free_digits (k - 1) (v / 2) (w / 2)) (g ∷ []) ∙ ap (λ z. b ++ (free_digits (k - 1) (v / 2) (w / 2) ++ (z ∷ []))) f ∙
-        ap (λ z. b ++ z) (sym (free_digits-more k v w h))
+    ap (λ z. b ++ z) (sym (free_digits-more k v w h))
 
 pub first-pass : (f : ℕ → Bool) (n k x : ℕ) → 0 < n → f k ≡ true → x ≡ first_from f n k → k ≡ x
 first-pass f n k x h e i = sym (i ∙ first-more f n k h ∙ ap (λ b. if b then k else first_from f (n - 1) (k + 1)) e)

@@ -237,7 +237,7 @@ module _ (old : List ℕ) (p : Bool) where
           form = sized k c;
           spells =
               spells_cons bytes r.token ts r.rest (t.Number k) (t.Based c ∷ []) r.cut (at_written bytes r.token (number_token n.value) (t.Number k)
-                  (ap t.Number (number_back n.value r.token.start m)) r.at)
+              (ap t.Number (number_back n.value r.token.start m)) r.at)
               (spells_cons bytes q.token r.rest q.rest (t.Based c) [] q.cut (at_written bytes q.token (based_token (sized_literal n b)) (t.Based c) refl q.at) (ap (symbols bytes) q.are));
           valid = λ f. free ∙ f;
           free = free;
@@ -378,8 +378,11 @@ module _ (old : List ℕ) (p : Bool) where
 
   -- the tokens of a path that goes on
   steps-more : (ps : List PathStep) (q : PathStep) (n : List ℕ) (place : ℕ) (i : List Written) → index_tokens q.index ≡ i →
-      path_tokens (record { steps = ps ++ (q ∷ []); name = n; place = place }) ++ joined [] ≡ ((path_tokens (record { steps = ps; name = q.name;
-          place = place })) ++ i) ++ (mark (codes ".") ∷ w.name n ∷ [])
+      path_tokens (record { steps = ps ++ (q ∷ []); name = n; place = place }) ++ joined [] ≡ ((path_tokens (record {
+        steps = ps;
+        name = q.name;
+        place = place;
+      })) ++ i) ++ (mark (codes ".") ∷ w.name n ∷ [])
   unfolding path_tokens
   steps-more ps q n place i h =
       let j : List Written = joined (map step_tokens ps) in
@@ -516,7 +519,7 @@ module _ (old : List ℕ) (p : Bool) where
                   map-snoc unplaced.select (made bytes q.form).selects new ∙ ap (λ z. z ++ (unplaced.select new ∷ [])) q.selects ∙
                   ap (λ z. map unplaced.select (made old x).selects ++ (z ∷ []))
                   (span-unplaced v (tree bytes r.form) (tree bytes u.form) ∙ ap (λ z. part_select v z (unplaced.expr (tree bytes u.form))) r.same ∙
-                      ap (part_select v (unplaced.expr (tree old i))) u.same ∙
+                  ap (part_select v (unplaced.expr (tree old i))) u.same ∙
                   sym (span-unplaced v (tree old i) (tree old j))) ∙
                   sym (map-snoc unplaced.select (made old x).selects sel);
               is_path = λ f. absurd (true≢false (sym f));
@@ -592,7 +595,7 @@ module _ (old : List ℕ) (p : Bool) where
       let ly : level s + 1 ≤ rank y = v.3 in
       let high : level s ≤ 11 = level-high s in
       of-tree (binary s x y) (omega (arith, l)) (λ r. omega (arith, r, high)) (infix-back p s l (tree old x) (tree old y) ((back x v.0 c.0).as_tree (omega (arith, l, lx)))
-          ((back y v.1 c.1.1).as_tree (omega (arith, ly))))
+      ((back y v.1 c.1.1).as_tree (omega (arith, ly))))
   back (choice k x y) v h =
       let c = good-cut old (text k) (t.Question ∷ (text x ++ (t.Divider d.Colon ∷ text y))) h in
       let i = good-cut old (text x) (t.Divider d.Colon ∷ text y) c.1.1 in

@@ -44,8 +44,11 @@ kind-gap k.Line j = refl
 kind-gap k.Join j = refl
 
 ends : (w : Written) → end_gap (last_of w) ≡ ending w
-ends w = elim (ends_line w) as (λ b. end_gap (if b then last.Line else last_kind w.kind) ≡ (if b then 10 ∷ [] else (if is_kind w.kind k.Escaped then 32 ∷ [] else []))) [ true ↦ refl | false
-    ↦ kind-end w.kind ]
+ends w = elim (ends_line w) as (λ b. end_gap (if b then last.Line else last_kind w.kind) ≡ (if b then 10 ∷ [] else (if is_kind w.kind k.Escaped then 32 ∷ [] else []))) [
+  | true ↦ refl
+  | false
+      ↦ kind-end w.kind
+]
 
 betweens : (w v : Written) → gap (last_of w) v.kind ≡ between w v
 betweens w v =

@@ -114,7 +114,7 @@ half-more k v = div-div-eq-div-mul v 2 (2 ^ k) ∙ (let p : 2 ^ suc k ≡ 2 ^ k 
 pub free_first : (k v w : ℕ) → free_digits (suc k) v w ≡ free_glyph (v / 2 ^ k) (w / 2 ^ k) ∷ free_digits k v w
 free_first zero v w =
     step 0 v w ∙ ap (λ z. z ++ (free_glyph v w ∷ [])) (free_digits-none 0 (v / 2) (w / 2) refl) ∙ ap (λ z. free_glyph z w ∷ []) (sym (div-one v)) ∙
-        ap (λ z. free_glyph (v / 1) z ∷ []) (sym (div-one w)) ∙
+    ap (λ z. free_glyph (v / 1) z ∷ []) (sym (div-one w)) ∙
     ap (λ z. free_glyph (v / 1) (w / 1) ∷ z) (sym (free_digits-none 0 v w refl))
 free_first (suc k) v w =
     step (suc k) v w ∙ ap (λ z. z ++ (free_glyph v w ∷ [])) (free_first k (v / 2) (w / 2)) ∙ ap (λ z. free_glyph (v / 2 / 2 ^ k) (w / 2 / 2 ^ k) ∷ z) (sym (step k v w)) ∙
@@ -147,8 +147,11 @@ first-is f zero k m a b h =
     subst (IsFirst f k m) (sym (first-none f 0 k refl)) (record { passes = subst (λ z. f z ≡ true) e h; least = omega arith; most = a })
 first-is f (suc n) k m a b h =
     elim (f k) as (λ t. f k ≡ t → IsFirst f k m (first_from f (suc n) k)) [
-      | true ↦ λ e. subst (IsFirst f k m) (sym (first-more f (suc n) k (omega arith) ∙ ap (λ t. if t then k else first_from f (suc n - 1) (k + 1)) e)) (record { passes = e;
-          least = omega arith; most = a })
+      | true ↦ λ e. subst (IsFirst f k m) (sym (first-more f (suc n) k (omega arith) ∙ ap (λ t. if t then k else first_from f (suc n - 1) (k + 1)) e)) (record {
+        passes = e;
+        least = omega arith;
+        most = a;
+      })
       | false ↦ λ e.
           let other : k ≡ m → ⊥ = λ q. true≢false (sym h ∙ (ap f (sym q) ∙ e)) in
           let j : suc n - 1 ≡ n = omega arith in

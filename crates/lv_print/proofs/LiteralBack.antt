@@ -89,7 +89,7 @@ number_whole n h =
 pub number_back : (n place : ℕ) → n < 2 ^ 128 → number_of place (decimal n) ≡ record { place = place; value = n }
 number_back n place h =
     let e : digits_number value_digit 10 0 (decimal n) % 2 ^ 128 ≡ n = ap (λ z. z % 2 ^ 128) (digits_value 10 128 n (omega arith) (omega arith) (omega arith) (below-ten n h)) ∙
-        mod-eq_of_lt {n = n} {m = 2 ^ 128} h in
+    mod-eq_of_lt {n = n} {m = 2 ^ 128} h in
     λ i. record { place = place; value = e i }
 
 -- ---- based tokens
@@ -107,7 +107,7 @@ digits-good base c s h =
     let q = both (base-digit base c) (list_all (base-digit base) s) h in
     let r = both (not (is_blank c)) (is_base_digit base c) q.0 in
     ap (λ b. is_digits base (if b then without_blanks s else c ∷ s)) (not-true _ r.0) ∙ ap (λ b. b && list_all (is_base_byte base) s) r.1 ∙
-        all-imply (base-digit base) (is_base_byte base) (digit-byte base) s q.1
+    all-imply (base-digit base) (is_base_byte base) (digit-byte base) s q.1
 
 no-blanks : (base : ℕ) (s : List ℕ) → list_all (base-digit base) s ≡ true → without_blanks s ≡ s
 unfolding without_blanks

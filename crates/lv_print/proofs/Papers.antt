@@ -158,5 +158,20 @@ tokens-Down a b = fold.fold_select-Down (List Written) (List Written) expr_step 
 
 pub ruleset writing = (with-none, with-more, with-append, ok-same)
 
-pub ruleset expr_rules = (writing, tokens-Lit, tokens-Name, tokens-Un, tokens-Bin, tokens-Div, tokens-Rem, tokens-Cond, tokens-Cat, tokens-Rep, tokens-Cast, tokens-Bit, tokens-Part,
-    tokens-Up, tokens-Down)
+pub ruleset expr_rules = (
+  writing,
+  tokens-Lit,
+  tokens-Name,
+  tokens-Un,
+  tokens-Bin,
+  tokens-Div,
+  tokens-Rem,
+  tokens-Cond,
+  tokens-Cat,
+  tokens-Rep,
+  tokens-Cast,
+  tokens-Bit,
+  tokens-Part,
+  tokens-Up,
+  tokens-Down,
+)

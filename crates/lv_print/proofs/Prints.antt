@@ -353,8 +353,11 @@ module _ (old : List ℕ) (L : Leaves base) (C : Calls base) (L' : List ℕ → 
       record {
         whole = subst AreWhole (sym same) q.whole;
         empty = q.empty ∙ ap is_nil (sym same);
-        again = λ bytes ts a. (let m : Again (call r) u z.0 x bytes ts = q.again bytes ts (subst (Are bytes ts) same a) in record { tree = (m.tree, None); spelled = (z.0, m.spelled, z.2);
-            same = λ l. (m.same l, None) });
+        again = λ bytes ts a. (let m : Again (call r) u z.0 x bytes ts = q.again bytes ts (subst (Are bytes ts) same a) in record {
+          tree = (m.tree, None);
+          spelled = (z.0, m.spelled, z.2);
+          same = λ l. (m.same l, None);
+        });
       }
   prints-tail r s h c d u v e i j us o x (Some y) good z =
       let split = good-cut old z.0 (z.1 ∷ z.2) (subst (AreGood old) z.3 good) in

@@ -153,7 +153,7 @@ module _ (old : List ℕ) (L : Leaves base) (C : Calls base) (L' : List ℕ → 
     select-end =
         acted rules.span_by span_end bare_span span-printed span-bare
         (prints_either old L C L' C' _ _ _ _ _ _ ends-bracket (prints_either old L C L' C' _ _ _ _ _ _ (bound (codes ":") refl)
-            (prints_either old L C L' C' _ _ _ _ _ _ (bound (codes "+:") refl) (bound (codes "-:") refl))))
+        (prints_either old L C L' C' _ _ _ _ _ _ (bound (codes "+:") refl) (bound (codes "-:") refl))))
 
     selected : P rules.selected select_tokens bare.select
     selected = acted rules.select_of select_tokens bare.select (λ p. select_printed p.1.0 p.1.1) (λ p. select_bare p.1.0 p.1.1) (pair begins-bracket (pair value select-end))
@@ -176,8 +176,10 @@ module _ (old : List ℕ) (L : Leaves base) (C : Calls base) (L' : List ℕ → 
     pub target_rule : P rules.target_rule target_printed placed_target
     target_rule =
         or
-        (acted rules.joined_target target_printed placed_target (λ p. written.target-Cat p.1.0) (λ p i. record { tree = unplaced.target-Cat p.1.0 i;
-            place = 0 }) (pair brace-pair (pair (listed target-tree) brace-end)))
+        (acted rules.joined_target target_printed placed_target (λ p. written.target-Cat p.1.0) (λ p i. record {
+          tree = unplaced.target-Cat p.1.0 i;
+          place = 0;
+        }) (pair brace-pair (pair (listed target-tree) brace-end)))
         (acted rules.named_target target_printed placed_target (λ p. written.target-Name p.0 p.1) (λ p i. record { tree = unplaced.target-Name p.0 p.1 i; place = 0 }) named)
 
     -- ---- declarations
@@ -185,7 +187,7 @@ module _ (old : List ℕ) (L : Leaves base) (C : Calls base) (L' : List ℕ → 
     range : P rules.range tokens.range_tokens bare_source.range
     range =
         acted rules.range_of tokens.range_tokens bare_source.range (λ p. ap (λ z. mark (codes "[") ∷ z) (append_assoc (expr_tokens p.1.0) (mark (codes ":") ∷ expr_tokens p.1.1.1.0)
-            (mark (codes "]") ∷ []))) (λ p. refl)
+        (mark (codes "]") ∷ []))) (λ p. refl)
         (pair begins-bracket (pair value (pair colon (pair value ends-bracket))))
 
     signed-printed : (x : Option Lexeme) → tokens.signed_tokens (is_some x) ≡ tokens.perhaps (λ t. word (codes "signed") ∷ []) x
@@ -222,7 +224,7 @@ module _ (old : List ℕ) (L : Leaves base) (C : Calls base) (L' : List ℕ → 
 
     output-printed : (p : Lexeme × Option (OneOf Lexeme Lexeme)) →
         direction_tokens (rules.output_of p) ≡ (word (codes "output") ∷ []) ++ tokens.perhaps (on_left_or_right (λ (t : Lexeme). word (codes "wire") ∷ [])
-            (λ (t : Lexeme). word (codes "reg") ∷ [])) p.1
+        (λ (t : Lexeme). word (codes "reg") ∷ [])) p.1
     output-printed (t, None) = refl
     output-printed (t, Some (left r)) = refl
     output-printed (t, Some (right r)) = refl
@@ -260,8 +262,13 @@ module _ (old : List ℕ) (L : Leaves base) (C : Calls base) (L' : List ℕ → 
     net-printed (x, None) = refl
     net-printed (x, Some q) = refl
 
-    net-bare : (p : Ident × Option (Lexeme × Expr)) → bare_source.net (rules.net_name_of p) ≡ rules.net_name_of (bare_source.ident p.0, option_map (λ (q : Lexeme × Expr). (plain q.0,
-        bare.expr q.1)) p.1)
+    net-bare : (p : Ident × Option (Lexeme × Expr)) → bare_source.net (rules.net_name_of p) ≡ rules.net_name_of (
+      bare_source.ident p.0,
+      option_map (λ (q : Lexeme × Expr). (
+        plain q.0,
+        bare.expr q.1,
+      )) p.1,
+    )
     net-bare (x, None) = refl
     net-bare (x, Some q) = refl
 
@@ -283,13 +290,13 @@ module _ (old : List ℕ) (L : Leaves base) (C : Calls base) (L' : List ℕ → 
     unfolding tokens.item_tokens bare_source.item
     index b w e h =
         acted (rules.index_item b) tokens.item_tokens bare_source.item (λ p. ap (λ z. z ∷ (commas (map tokens.ident_tokens p.1.0) ++ (mark (codes ";") ∷ []))) e) (λ p. refl)
-            (pair (keyword w h) (pair (listed ident) semicolon))
+        (pair (keyword w h) (pair (listed ident) semicolon))
 
     parameter : (b : Bool) (w : List ℕ) → tokens.params_word b ≡ word w → kind_of w ≡ Some k.Word → P (rules.parameter b w) tokens.item_tokens bare_source.item
     unfolding tokens.item_tokens bare_source.item
     parameter b w e h =
         acted (rules.params_item b) tokens.item_tokens bare_source.item (λ p. ap (λ z. z ∷ (tokens.params_tokens p.1.0 ++ (mark (codes ";") ∷ []))) e) (λ p. refl) (pair (keyword w h)
-            (pair params semicolon))
+        (pair params semicolon))
 
     -- ---- statements
 
@@ -305,7 +312,7 @@ module _ (old : List ℕ) (L : Leaves base) (C : Calls base) (L' : List ℕ → 
     loop : P rules.loop tokens.stmt_tokens bare_source.stmt
     loop =
         acted rules.loop_stmt tokens.stmt_tokens bare_source.stmt (λ p. written.stmt-Loop p.0.index p.0.start p.0.test p.0.again p.0.next p.1)
-            (λ p. unplaced.stmt-Loop p.0.index p.0.start p.0.test p.0.again p.0.next p.1)
+        (λ p. unplaced.stmt-Loop p.0.index p.0.start p.0.test p.0.again p.0.next p.1)
         (pair loop-head parts.stmt)
 
     empty : P rules.empty tokens.stmt_tokens bare_source.stmt
@@ -316,8 +323,10 @@ module _ (old : List ℕ) (L : Leaves base) (C : Calls base) (L' : List ℕ → 
     label-printed None = refl
     label-printed (Some p) = refl
 
-    label-bare : (x : Option (Lexeme × Ident)) → option_map bare_source.ident (option_map rules.behind x) ≡ option_map rules.behind (option_map (λ (p : Lexeme × Ident). (plain p.0,
-        bare_source.ident p.1)) x)
+    label-bare : (x : Option (Lexeme × Ident)) → option_map bare_source.ident (option_map rules.behind x) ≡ option_map rules.behind (option_map (λ (p : Lexeme × Ident). (
+      plain p.0,
+      bare_source.ident p.1,
+    )) x)
     label-bare None = refl
     label-bare (Some p) = refl
 
@@ -341,7 +350,7 @@ module _ (old : List ℕ) (L : Leaves base) (C : Calls base) (L' : List ℕ → 
     if-printed : (p : Lexeme × (Lexeme × (Expr × (Lexeme × (Stmt × Option Stmt))))) →
         tokens.stmt_tokens (rules.if_stmt p) ≡
         word (codes "if") ∷ mark (codes "(") ∷ (expr_tokens p.1.1.0 ++ (mark (codes ")") ∷ (tokens.stmt_tokens p.1.1.1.1.0 ++ tokens.perhaps (λ z. word (codes "else") ∷ tokens.stmt_tokens
-            z) p.1.1.1.1.1)))
+        z) p.1.1.1.1.1)))
     if-printed (a, (b, (c, (d, (x, None))))) = written.stmt-If c x
     if-printed (a, (b, (c, (d, (x, Some y))))) = written.stmt-If_else c x y
 
@@ -379,14 +388,14 @@ module _ (old : List ℕ) (L : Leaves base) (C : Calls base) (L' : List ℕ → 
     arms b =
         acted rules.arms_of (λ list. joined (map tokens.arm_tokens list) ++ (word (codes "endcase") ∷ [])) (map bare_source.arm)
         (λ p. ap (λ z. z ++ (word (codes "endcase") ∷ [])) (joined-more (tokens.arm_tokens p.0) (map tokens.arm_tokens p.1.0)) ∙
-            append_assoc (tokens.arm_tokens p.0) (joined (map tokens.arm_tokens p.1.0)) (word (codes "endcase") ∷ [])) (λ p. refl)
+        append_assoc (tokens.arm_tokens p.0) (joined (map tokens.arm_tokens p.1.0)) (word (codes "endcase") ∷ [])) (λ p. refl)
         (pair (arm b) (upto (arm b) (keyword (codes "endcase") refl)))
 
     cases : (b : Bool) → tokens.case_word b ≡ word (rules.case_word b) → kind_of (rules.case_word b) ≡ Some k.Word → P (rules.cases b) tokens.stmt_tokens bare_source.stmt
     cases b e h =
         acted (rules.case_stmt b) tokens.stmt_tokens bare_source.stmt
         (λ p. written.stmt-Case b p.1.1.0 p.1.1.1.1 ∙ ap (λ z. z ∷ mark (codes "(") ∷ (expr_tokens p.1.1.0 ++ (mark (codes ")") ∷ (joined (map tokens.arm_tokens p.1.1.1.1) ++ (word (codes
-            "endcase") ∷ []))))) e)
+        "endcase") ∷ []))))) e)
         (λ p. unplaced.stmt-Case b p.1.1.0 p.1.1.1.1) (pair (keyword (rules.case_word b) h) (pair opens (pair value (pair closes (arms b)))))
 
     abbrev arrow_tokens : Bool → List Written
@@ -416,7 +425,7 @@ module _ (old : List ℕ) (L : Leaves base) (C : Calls base) (L' : List ℕ → 
     assignment : P rules.assignment tokens.stmt_tokens bare_source.stmt
     assignment =
         acted rules.assigned tokens.stmt_tokens bare_source.stmt (λ p. assigned-printed p.1.0 p.0 p.1.1.0) (λ p. assigned-bare p.1.0 p.0 p.1.1.0)
-            (pair parts.target (pair arrow (pair value semicolon)))
+        (pair parts.target (pair arrow (pair value semicolon)))
 
     pub stmt_rule : P rules.stmt_rule tokens.stmt_tokens bare_source.stmt
     unfolding kind_of is_word
@@ -459,7 +468,7 @@ module _ (old : List ℕ) (L : Leaves base) (C : Calls base) (L' : List ℕ → 
     event =
         or (acted rules.star_event tokens.watch_tokens bare_source.watch (λ t. refl) (λ t. refl) star)
         (prints_where old L C L' C' rules.behind (both rules.opens rules.event_inside) (λ p. (mark (codes "(") ∷ []) ++ inside_watch p.1)
-            (λ p. (plain p.0, bare_source.watch p.1)) tokens.watch_tokens bare_source.watch
+        (λ p. (plain p.0, bare_source.watch p.1)) tokens.watch_tokens bare_source.watch
         behind-spelled (λ p. refl) (pair opens event-inside))
 
     always : P rules.always tokens.item_tokens bare_source.item
@@ -499,8 +508,11 @@ module _ (old : List ℕ) (L : Leaves base) (C : Calls base) (L' : List ℕ → 
     conns-printed (left t) = refl
     conns-printed (right p) = refl
 
-    conns-bare : (x : OneOf Lexeme (List Conn × Lexeme)) → map bare_source.conn (rules.conns_or_none x) ≡ rules.conns_or_none (each_side plain (λ (p : List Conn × Lexeme). (map
-        bare_source.conn p.0, plain p.1)) x)
+    conns-bare : (x : OneOf Lexeme (List Conn × Lexeme)) → map bare_source.conn (rules.conns_or_none x) ≡ rules.conns_or_none (each_side plain (λ (p : List Conn × Lexeme). (
+      map
+          bare_source.conn p.0,
+      plain p.1,
+    )) x)
     conns-bare (left t) = refl
     conns-bare (right p) = refl
 
@@ -550,9 +562,9 @@ module _ (old : List ℕ) (L : Leaves base) (C : Calls base) (L' : List ℕ → 
     overrides : P rules.overrides (λ list. tokens.hash (map tokens.conn_tokens list)) (map bare_source.conn)
     overrides =
         prints_where old L C L' C' rules.some_or_none (perhaps (rules.hash rules.conns)) (tokens.perhaps (λ list. mark (codes "#") ∷ parens (commas (map tokens.conn_tokens list))))
-            (option_map (map bare_source.conn))
+        (option_map (map bare_source.conn))
         (λ list. tokens.hash (map tokens.conn_tokens list)) (map bare_source.conn) overrides-spelled (some-bare bare_source.conn)
-            (some (hashed rules.conns (λ list. commas (map tokens.conn_tokens list)) (map bare_source.conn) conns))
+        (some (hashed rules.conns (λ list. commas (map tokens.conn_tokens list)) (map bare_source.conn) conns))
 
     instance : P rules.instance tokens.item_tokens bare_source.item
     unfolding tokens.item_tokens bare_source.item
@@ -678,12 +690,12 @@ module _ (old : List ℕ) (L : Leaves base) (C : Calls base) (L' : List ℕ → 
     group-list : P rules.group_list (λ list. commas (map tokens.group_tokens list)) (map bare_source.params)
     group-list =
         grouped rules.params_of rules.params_header rules.setting params_header_tokens tokens.setting_tokens tokens.group_tokens bare_header bare_source.setting bare_source.params (λ y ys.
-            refl) (λ y ys. refl) params-header setting
+        refl) (λ y ys. refl) params-header setting
 
     group-some : (us : List Lexeme) (o : Bool) (xs : List Params) → Spells base L C rules.group_list us o xs → IsSome xs
     group-some us o xs h =
         grouped_some rules.params_of rules.params_header rules.setting params_header_tokens tokens.setting_tokens tokens.group_tokens bare_header bare_source.setting bare_source.params (λ y
-            ys. refl) (λ y ys. refl) us o xs h
+        ys. refl) (λ y ys. refl) us o xs h
 
     params-spelled : (us : List Lexeme) (o : Bool) (x : Option (List Params)) → Spells base L C (perhaps (rules.hash rules.group_list)) us o x →
         tokens.hash (map tokens.group_tokens (rules.some_or_none x)) ≡ tokens.perhaps (λ list. mark (codes "#") ∷ parens (commas (map tokens.group_tokens list))) x
@@ -693,14 +705,14 @@ module _ (old : List ℕ) (L : Leaves base) (C : Calls base) (L' : List ℕ → 
     module-params : P rules.module_params (λ list. tokens.hash (map tokens.group_tokens list)) (map bare_source.params)
     module-params =
         prints_where old L C L' C' rules.some_or_none (perhaps (rules.hash rules.group_list)) (tokens.perhaps (λ list. mark (codes "#") ∷ parens (commas (map tokens.group_tokens list))))
-            (option_map (map bare_source.params))
+        (option_map (map bare_source.params))
         (λ list. tokens.hash (map tokens.group_tokens list)) (map bare_source.params) params-spelled (some-bare bare_source.params)
         (some (hashed rules.group_list (λ list. commas (map tokens.group_tokens list)) (map bare_source.params) group-list))
 
     declared-ports : P rules.declared_ports (λ list. commas (map tokens.port_tokens list)) (map bare_source.port)
     declared-ports =
         grouped rules.aport_of rules.port_header rules.ident port_header_tokens tokens.ident_tokens tokens.port_tokens bare_port_header bare_source.ident bare_source.port (λ y ys. refl)
-            (λ y ys. refl) port-header ident
+        (λ y ys. refl) port-header ident
 
     ports-printed : (x : OneOf (List Aport) (List Ident)) → inside_ports (rules.one_of ports.Declared ports.Names x) ≡ on_left_or_right (λ list. commas (map tokens.port_tokens list))
         (λ xs. commas (map tokens.ident_tokens xs)) x
@@ -751,8 +763,10 @@ module _ (old : List ℕ) (L : Leaves base) (C : Calls base) (L' : List ℕ → 
     ports-spelled us o None h = refl
     ports-spelled us o (Some p) h = ports-there h.1 h.3 p.1 h.6
 
-    absent-bare : (x : Option (Lexeme × Ports)) → bare_source.port_list (rules.ports_or_absent x) ≡ rules.ports_or_absent (option_map (λ (p : Lexeme × Ports). (plain p.0,
-        bare_source.port_list p.1)) x)
+    absent-bare : (x : Option (Lexeme × Ports)) → bare_source.port_list (rules.ports_or_absent x) ≡ rules.ports_or_absent (option_map (λ (p : Lexeme × Ports). (
+      plain p.0,
+      bare_source.port_list p.1,
+    )) x)
     absent-bare None = refl
     absent-bare (Some p) = refl
 
@@ -775,7 +789,7 @@ module _ (old : List ℕ) (L : Leaves base) (C : Calls base) (L' : List ℕ → 
         acted rules.module_of tokens.module_tokens bare_source.module_tree
         (λ p. ap (λ z. word (codes "module") ∷ name p.1.0.name ∷ z)
         (head-first (tokens.hash (map tokens.group_tokens p.1.1.0)) (tokens.ports_tokens p.1.1.1.0) (mark (codes ";") ∷ [])
-            (joined (map tokens.item_tokens p.1.1.1.1.1) ++ (word (codes "endmodule") ∷ []))))
+        (joined (map tokens.item_tokens p.1.1.1.1.1) ++ (word (codes "endmodule") ∷ []))))
         (λ p. refl)
         (pair (keyword (codes "module") refl) (pair ident (pair module-params (pair module-ports (pair semicolon items-to-end)))))
 

@@ -180,7 +180,7 @@ pub generate_written : (x : Item) (list xs : List Item) (p0 p1 p2 : Paper) → x
 generate_written x list xs p0 p1 p2 e f h i =
     last-written p2 (word (codes "endgenerate")) ∙ two-written p1 p2 (joined (map item_tokens xs)) (word (codes "endgenerate") ∷ []) (i ∙ ap (λ z. with_tokens p1 (joined (map item_tokens z))) f) ∙
     ap (λ z. with_tokens z (joined (map item_tokens xs) ++ (word (codes "endgenerate") ∷ []))) h ∙ sym (with-more p0 (word (codes "generate")) _) ∙
-        ap (with_tokens p0) (sym (ap item_tokens e ∙ item-Generate xs))
+    ap (with_tokens p0) (sym (ap item_tokens e ∙ item-Generate xs))
 
 pub ruleset source_rules = (
   writing,

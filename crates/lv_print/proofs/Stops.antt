@@ -143,7 +143,7 @@ base-small : (c : ℕ) → nat_lt 16 (base_of c) ≡ false
 unfolding base_of
 base-small c =
     elim ((c == 98) || (c == 66)) as (λ b. nat_lt 16 (if b then 2 else (if (c == 111) || (c == 79) then 8 else (if (c == 100) || (c == 68) then 10 else (if (c == 104) || (c == 72) then 16
-        else 0)))) ≡ false) [
+    else 0)))) ≡ false) [
       | true ↦ refl
       | false ↦ elim ((c == 111) || (c == 79)) as (λ b. nat_lt 16 (if b then 8 else (if (c == 100) || (c == 68) then 10 else (if (c == 104) || (c == 72) then 16 else 0))) ≡ false) [
         | true ↦ refl
@@ -229,30 +229,30 @@ stops [] u c j g o = λ h. absurd (none-some j h)
 stops (x ∷ xs) u c j g o =
     let v : List ℕ = xs ++ (c ∷ u) in
     elim (is_letter x) as (λ l. kind_by l (is_digit x) (x == 92) (x == 36) (x == 96) (x == 39) (x == 10) (x ∷ xs) xs ≡ Some j →
-        kind_by l (is_digit x) (x == 92) (x == 36) (x == 96) (x == 39) (x == 10) (x ∷ v) v ≡ None) [
+    kind_by l (is_digit x) (x == 92) (x == 36) (x == 96) (x == 39) (x == 10) (x ∷ v) v ≡ None) [
       | true ↦ λ h. if-none _ _ (word-stops (x ∷ xs) u c (inner-stop c g) (if-some _ _ j h))
       | false ↦ elim (is_digit x) as (λ l. kind_by false l (x == 92) (x == 36) (x == 96) (x == 39) (x == 10) (x ∷ xs) xs ≡ Some j →
           kind_by false l (x == 92) (x == 36) (x == 96) (x == 39) (x == 10) (x ∷ v) v ≡ None) [
-        | true ↦ λ h. if-none _ _ (all-stops is_number_byte xs u c (number-stop c g))
-        | false ↦ elim (x == 92) as (λ l. kind_by false false l (x == 36) (x == 96) (x == 39) (x == 10) (x ∷ xs) xs ≡ Some j →
-            kind_by false false l (x == 36) (x == 96) (x == 39) (x == 10) (x ∷ v) v ≡ None) [
-          | true ↦ λ h. backslash-stops xs u c j g o h
-          | false ↦ elim (x == 36) as (λ l. kind_by false false false l (x == 96) (x == 39) (x == 10) (x ∷ xs) xs ≡ Some j →
-              kind_by false false false l (x == 96) (x == 39) (x == 10) (x ∷ v) v ≡ None) [
-            | true ↦ λ h. if-none _ _ (word-stops xs u c (inner-stop c g) (if-some _ _ j h))
-            | false ↦ elim (x == 96) as (λ l. kind_by false false false false l (x == 39) (x == 10) (x ∷ xs) xs ≡ Some j → kind_by false false false false l (x == 39) (x == 10) (x ∷ v) v ≡ None) [
-              | true ↦ λ h. if-none _ _ (word-stops xs u c (inner-stop c g) (if-some _ _ j h))
-              | false ↦ elim (x == 39) as (λ l. kind_by false false false false false l (x == 10) (x ∷ xs) xs ≡ Some j → kind_by false false false false false l (x == 10) (x ∷ v) v ≡ None) [
-                | true ↦ λ h. if-none _ _ (based-stops xs u c g (if-some _ _ j h))
-                | false ↦ elim (x == 10) as (λ l. kind_by false false false false false false l (x ∷ xs) xs ≡ Some j → kind_by false false false false false false l (x ∷ v) v ≡ None) [
-                  | true ↦ λ h. absurd (line-not j _ h o)
-                  | false ↦ λ h. if-none _ _ (mark-stops (x ∷ xs) u c g)
+            | true ↦ λ h. if-none _ _ (all-stops is_number_byte xs u c (number-stop c g))
+            | false ↦ elim (x == 92) as (λ l. kind_by false false l (x == 36) (x == 96) (x == 39) (x == 10) (x ∷ xs) xs ≡ Some j →
+                kind_by false false l (x == 36) (x == 96) (x == 39) (x == 10) (x ∷ v) v ≡ None) [
+                  | true ↦ λ h. backslash-stops xs u c j g o h
+                  | false ↦ elim (x == 36) as (λ l. kind_by false false false l (x == 96) (x == 39) (x == 10) (x ∷ xs) xs ≡ Some j →
+                      kind_by false false false l (x == 96) (x == 39) (x == 10) (x ∷ v) v ≡ None) [
+                        | true ↦ λ h. if-none _ _ (word-stops xs u c (inner-stop c g) (if-some _ _ j h))
+                        | false ↦ elim (x == 96) as (λ l. kind_by false false false false l (x == 39) (x == 10) (x ∷ xs) xs ≡ Some j → kind_by false false false false l (x == 39) (x == 10) (x ∷ v) v ≡ None) [
+                          | true ↦ λ h. if-none _ _ (word-stops xs u c (inner-stop c g) (if-some _ _ j h))
+                          | false ↦ elim (x == 39) as (λ l. kind_by false false false false false l (x == 10) (x ∷ xs) xs ≡ Some j → kind_by false false false false false l (x == 10) (x ∷ v) v ≡ None) [
+                            | true ↦ λ h. if-none _ _ (based-stops xs u c g (if-some _ _ j h))
+                            | false ↦ elim (x == 10) as (λ l. kind_by false false false false false false l (x ∷ xs) xs ≡ Some j → kind_by false false false false false false l (x ∷ v) v ≡ None) [
+                              | true ↦ λ h. absurd (line-not j _ h o)
+                              | false ↦ λ h. if-none _ _ (mark-stops (x ∷ xs) u c g)
+                            ]
+                          ]
+                        ]
+                      ]
                 ]
-              ]
-            ]
           ]
-        ]
-      ]
     ]
 
 -- ---- a number ends before an apostrophe
@@ -280,31 +280,31 @@ number_stops [] u = λ h. absurd (none-some k.Number h)
 number_stops (x ∷ xs) u =
     let v : List ℕ = xs ++ (39 ∷ u) in
     elim (is_letter x) as (λ l. kind_by l (is_digit x) (x == 92) (x == 36) (x == 96) (x == 39) (x == 10) (x ∷ xs) xs ≡ Some k.Number →
-        kind_by l (is_digit x) (x == 92) (x == 36) (x == 96) (x == 39) (x == 10) (x ∷ v) v ≡ None) [
+    kind_by l (is_digit x) (x == 92) (x == 36) (x == 96) (x == 39) (x == 10) (x ∷ v) v ≡ None) [
       | true ↦ λ h. absurd (not-number_word _ _ h)
       | false ↦ elim (is_digit x) as (λ l. kind_by false l (x == 92) (x == 36) (x == 96) (x == 39) (x == 10) (x ∷ xs) xs ≡ Some k.Number →
           kind_by false l (x == 92) (x == 36) (x == 96) (x == 39) (x == 10) (x ∷ v) v ≡ None) [
-        | true ↦ λ h. if-none _ _ (all-stops is_number_byte xs u 39 apostrophe-stop)
-        | false ↦ elim (x == 92) as (λ l. kind_by false false l (x == 36) (x == 96) (x == 39) (x == 10) (x ∷ xs) xs ≡ Some k.Number →
-            kind_by false false l (x == 36) (x == 96) (x == 39) (x == 10) (x ∷ v) v ≡ None) [
-          | true ↦ λ h. absurd (not-number_behind xs h)
-          | false ↦ elim (x == 36) as (λ l. kind_by false false false l (x == 96) (x == 39) (x == 10) (x ∷ xs) xs ≡ Some k.Number →
-              kind_by false false false l (x == 96) (x == 39) (x == 10) (x ∷ v) v ≡ None) [
-            | true ↦ λ h. absurd (not-number _ k.System refl h)
-            | false ↦ elim (x == 96) as (λ l. kind_by false false false false l (x == 39) (x == 10) (x ∷ xs) xs ≡ Some k.Number →
-                kind_by false false false false l (x == 39) (x == 10) (x ∷ v) v ≡ None) [
-              | true ↦ λ h. absurd (not-number _ k.Tick refl h)
-              | false ↦ elim (x == 39) as (λ l. kind_by false false false false false l (x == 10) (x ∷ xs) xs ≡ Some k.Number → kind_by false false false false false l (x == 10) (x ∷ v) v ≡ None) [
-                | true ↦ λ h. absurd (not-number _ k.Based refl h)
-                | false ↦ elim (x == 10) as (λ l. kind_by false false false false false false l (x ∷ xs) xs ≡ Some k.Number → kind_by false false false false false false l (x ∷ v) v ≡ None) [
-                  | true ↦ λ h. absurd (not-number _ k.Line refl h)
-                  | false ↦ λ h. absurd (not-number _ k.Mark refl h)
+            | true ↦ λ h. if-none _ _ (all-stops is_number_byte xs u 39 apostrophe-stop)
+            | false ↦ elim (x == 92) as (λ l. kind_by false false l (x == 36) (x == 96) (x == 39) (x == 10) (x ∷ xs) xs ≡ Some k.Number →
+                kind_by false false l (x == 36) (x == 96) (x == 39) (x == 10) (x ∷ v) v ≡ None) [
+                  | true ↦ λ h. absurd (not-number_behind xs h)
+                  | false ↦ elim (x == 36) as (λ l. kind_by false false false l (x == 96) (x == 39) (x == 10) (x ∷ xs) xs ≡ Some k.Number →
+                      kind_by false false false l (x == 96) (x == 39) (x == 10) (x ∷ v) v ≡ None) [
+                        | true ↦ λ h. absurd (not-number _ k.System refl h)
+                        | false ↦ elim (x == 96) as (λ l. kind_by false false false false l (x == 39) (x == 10) (x ∷ xs) xs ≡ Some k.Number →
+                            kind_by false false false false l (x == 39) (x == 10) (x ∷ v) v ≡ None) [
+                              | true ↦ λ h. absurd (not-number _ k.Tick refl h)
+                              | false ↦ elim (x == 39) as (λ l. kind_by false false false false false l (x == 10) (x ∷ xs) xs ≡ Some k.Number → kind_by false false false false false l (x == 10) (x ∷ v) v ≡ None) [
+                                | true ↦ λ h. absurd (not-number _ k.Based refl h)
+                                | false ↦ elim (x == 10) as (λ l. kind_by false false false false false false l (x ∷ xs) xs ≡ Some k.Number → kind_by false false false false false false l (x ∷ v) v ≡ None) [
+                                  | true ↦ λ h. absurd (not-number _ k.Line refl h)
+                                  | false ↦ λ h. absurd (not-number _ k.Mark refl h)
+                                ]
+                              ]
+                            ]
+                      ]
                 ]
-              ]
-            ]
           ]
-        ]
-      ]
     ]
 
 -- ---- no comment begins where a token does

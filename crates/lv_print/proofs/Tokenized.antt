@@ -195,11 +195,11 @@ stand front (w ∷ ws) h =
     let whole : (front ++ (b ++ g)) ++ t ≡ text = append_assoc front (b ++ g) t ∙ ap (λ z. front ++ z) (append_assoc b g t) in
     let long : length (front ++ (b ++ g)) ≡ (length front + length b) + length g = (let l = length-append front (b ++ g) in let m = length-append b g in omega (arith, l, m)) in
     let inside : AreTokensFrom ((front ++ (b ++ g)) ++ t) (length (front ++ (b ++ g))) (tokens_at (length (front ++ (b ++ g))) ws)
-        (length ((front ++ (b ++ g)) ++ t)) = stand (front ++ (b ++ g)) ws h.1 in
+    (length ((front ++ (b ++ g)) ++ t)) = stand (front ++ (b ++ g)) ws h.1 in
     let there : AreTokensFrom text (length (front ++ (b ++ g))) (tokens_at (length (front ++ (b ++ g))) ws) (length text) = subst (λ z. AreTokensFrom z (length (front ++ (b ++ g)))
-        (tokens_at (length (front ++ (b ++ g))) ws) (length z)) whole inside in
+    (tokens_at (length (front ++ (b ++ g))) ws) (length z)) whole inside in
     let rest : AreTokensFrom text ((length front + length b) + length g) (tokens_at ((length front + length b) + length g) ws)
-        (length text) = subst (λ n. AreTokensFrom text n (tokens_at n ws) (length text)) long there in (
+    (length text) = subst (λ n. AreTokensFrom text n (tokens_at n ws) (length text)) long there in (
       lists.none refl,
       token-there text (length front) (length text) [] w.kind b (g ++ t) (drop-append_seam front (b ++ (g ++ t))) h.0.ordinary h.0.kind (rest-of w ws h.1),
       behind-there text (length front + length b) (length text) w ws _ t (drop-more front b (g ++ t)) rest,
@@ -207,8 +207,12 @@ stand front (w ∷ ws) h =
 
 -- ---- directives leave them
 
-step-plain : (text : List ℕ) (j : Kind) (p q : ℕ) (ts : List Token) → is_ordinary j ≡ true → step_of text [] [] (token j p q) ts ≡ record { reading = one (token j p q); macros = [];
-    branches = []; taken = 0 }
+step-plain : (text : List ℕ) (j : Kind) (p q : ℕ) (ts : List Token) → is_ordinary j ≡ true → step_of text [] [] (token j p q) ts ≡ record {
+  reading = one (token j p q);
+  macros = [];
+  branches = [];
+  taken = 0;
+}
 unfolding step_of
 step-plain text k.Name p q ts o = refl
 step-plain text k.Escaped p q ts o = refl

@@ -160,7 +160,7 @@ module _ (p : Bool) where
     whole = subst AreWhole (sym (tokens-Un op x)) (parens_whole (mark (op_bytes op) ∷ expr_tokens x) (w, h.whole));
     again = λ bytes ts a.
         let c : Enclosed bytes ts (mark (op_bytes op) ∷ expr_tokens x) t.LeftParen t.RightParen = enclosed bytes ts (codes "(")
-            (codes ")") _ t.LeftParen t.RightParen refl refl (subst (Are bytes ts) (tokens-Un op x) a) in
+        (codes ")") _ t.LeftParen t.RightParen refl refl (subst (Are bytes ts) (tokens-Un op x) a) in
         let b : Behind bytes c.inside (mark (op_bytes op)) (expr_tokens x) = behind_of bytes c.inside _ _ c.are in
         let q : TreeAgain bytes b.rest x = h.again bytes b.rest b.are in
         let tight : 13 ≤ rank q.form = q.tight in
@@ -182,7 +182,7 @@ module _ (p : Bool) where
     whole = subst AreWhole (sym (tokens x y)) (parens_whole _ (middle_whole m _ _ w h.whole i.whole));
     again = λ bytes ts a.
         let c : Enclosed bytes ts (expr_tokens x ++ (mark m ∷ expr_tokens y)) t.LeftParen t.RightParen = enclosed bytes ts (codes "(")
-            (codes ")") _ t.LeftParen t.RightParen refl refl (subst (Are bytes ts) (tokens x y) a) in
+        (codes ")") _ t.LeftParen t.RightParen refl refl (subst (Are bytes ts) (tokens x y) a) in
         let b : Middle bytes c.inside (expr_tokens x) (expr_tokens y) (t.Sign s) = middle bytes c.inside m _ _ (t.Sign s) f c.are in
         let q : TreeAgain bytes b.left x = h.again bytes b.left b.left_are in
         let r : TreeAgain bytes b.right y = i.again bytes b.right b.right_are in
@@ -232,7 +232,7 @@ module _ (p : Bool) where
     whole = subst AreWhole (sym (tokens-Cat xs)) (braces_whole _ h.whole);
     again = λ bytes ts a.
         let c : Enclosed bytes ts (commas (map expr_tokens xs)) t.LeftBrace t.RightBrace = enclosed bytes ts (codes "{")
-            (codes "}") _ t.LeftBrace t.RightBrace refl refl (subst (Are bytes ts) (tokens-Cat xs) a) in
+        (codes "}") _ t.LeftBrace t.RightBrace refl refl (subst (Are bytes ts) (tokens-Cat xs) a) in
         let q : ListAgain bytes c.inside xs = h.again bytes c.inside c.are in
         record {
           form = brace q.form;

@@ -44,7 +44,7 @@ pub own-returns-in-Cond : goal.own-returns-in-Cond
 own-returns-in-Cond t c =
     let names = names_of c.args.consts.now in
     arm.at-Cond names c.args.joined _ _ _ _ _ _ _ _ _ _ _ c.in-Cond.is c.get-in-Cond.ensures c.get-in-Cond-2.ensures c.get-in-Cond-3.ensures c.own-test.ensures
-        c.own-left-in-Cond.ensures c.own-in-Cond.ensures c.chosen_own.ensures
+    c.own-left-in-Cond.ensures c.own-in-Cond.ensures c.chosen_own.ensures
 
 pub own-returns-in-Cat : goal.own-returns-in-Cat
 own-returns-in-Cat t c =
@@ -90,7 +90,7 @@ pub own_pick-returns-in-Part : goal.own_pick-returns-in-Part
 own_pick-returns-in-Part t c =
     let names = names_of c.args.consts.now in
     arm.own-Part names c.args.path.now c.args.constant.now c.args.selects.now _ _ _ _ _ _ (omega arith) c.index-selects-0.is c.in-Part.is c.full-left.ensures c.full-right.ensures
-        c.part_own.ensures
+    c.part_own.ensures
 
 pub own_pick-returns-in-Up : goal.own_pick-returns-in-Up
 own_pick-returns-in-Up t c =
@@ -113,13 +113,13 @@ pub value_pick-returns-in-Part : goal.value_pick-returns-in-Part
 value_pick-returns-in-Part t c =
     let names = names_of c.args.consts.now in
     arm.full-Part names c.args.path.now c.args.constant.now c.args.selects.now _ _ _ _ _ _ (omega arith) c.index-selects-0.is c.in-Part.is c.full-left.ensures c.full-right.ensures
-        c.part_full.ensures
+    c.part_full.ensures
 
 pub value_pick-returns-in-Up : goal.value_pick-returns-in-Up
 value_pick-returns-in-Up t c =
     let names = names_of c.args.consts.now in
     arm.full-Up names c.args.path.now c.args.constant.now c.args.selects.now _ _ _ _ _ _ (omega arith) c.index-selects-0.is c.in-Up.is c.full-from.ensures c.full-count.ensures
-        c.up_full.ensures
+    c.up_full.ensures
 
 pub value_pick-returns-in-Down : goal.value_pick-returns-in-Down
 value_pick-returns-in-Down t c =
@@ -141,7 +141,7 @@ pub value-returns-in-Some : goal.value-returns-in-Some
 value-returns-in-Some t c =
     let names = names_of c.args.consts.now in
     arm.value-some names c.args.joined c.args.reach _ c.in-Name.path c.in-Name.selects _ c.in-Some.constant _ _ c.in-Name.is c.as_slice.ensures c.in-Some.ensures c.requires
-        c.value_pick.ensures c.placed-in-Some.ensures
+    c.value_pick.ensures c.placed-in-Some.ensures
 
 pub value-returns-in-Cast : goal.value-returns-in-Cast
 value-returns-in-Cast t c =
@@ -202,13 +202,13 @@ pub value-returns-in-Cat : goal.value-returns-in-Cat
 value-returns-in-Cat t c =
     let names = names_of c.args.consts.now in
     arm.value-Cat names c.args.joined c.args.reach _ _ _ _ _ _ _ c.in-Cat.is c.requires c.as_slice-in-Cat.ensures c.place_of-place-in-Cat.ensures c.values-word.ensures
-        c.joined_full.ensures c.placed-in-Cat.ensures
+    c.joined_full.ensures c.placed-in-Cat.ensures
 
 pub value-returns-in-Rep : goal.value-returns-in-Rep
 value-returns-in-Rep t c =
     let names = names_of c.args.consts.now in
     arm.value-Rep names c.args.joined c.args.reach _ _ _ _ _ _ _ _ _ c.in-Rep.is c.requires c.as_slice-in-Rep.ensures c.place_of-place-in-Rep.ensures c.full-copies.ensures
-        c.values-word-in-Rep.ensures c.repeated_full.ensures c.placed-in-Rep.ensures
+    c.values-word-in-Rep.ensures c.repeated_full.ensures c.placed-in-Rep.ensures
 
 pub pair-returns-in-Err : goal.pair-returns-in-Err
 pair-returns-in-Err t c =
@@ -219,13 +219,13 @@ pub pair-returns-in-Err-value : goal.pair-returns-in-Err-value
 pair-returns-in-Err-value t c =
     let names = names_of c.args.consts.now in
     arm.left-right_wrong names c.args.a.now c.args.b.now c.args.reach _ _ _ _ _ c.get-then-weight.ensures c.get-in-Ok.ensures c.spread.ensures c.in-Ok.ensures.right
-        c.in-Err-value.ensures.wrong
+    c.in-Err-value.ensures.wrong
 
 pub pair-returns-in-Ok-value : goal.pair-returns-in-Ok-value
 pair-returns-in-Ok-value t c =
     let names = names_of c.args.consts.now in
     arm.left-paired names c.args.a.now c.args.b.now c.args.reach _ _ _ _ _ _ _ _ _ _ c.get-then-weight.ensures c.get-in-Ok.ensures c.get-in-Ok-value.ensures c.spread.ensures
-        c.held-right.ensures.reach c.held-right.ensures.same c.in-Ok.ensures.right c.in-Ok-value.ensures.right c.value-in-Ok-value.ensures c.paired.ensures
+    c.held-right.ensures.reach c.held-right.ensures.same c.in-Ok.ensures.right c.in-Ok-value.ensures.right c.value-in-Ok-value.ensures c.paired.ensures
 
 pub pair-returns-in-Err-own : goal.pair-returns-in-Err-own
 pair-returns-in-Err-own t c =
@@ -236,14 +236,14 @@ pub pair-returns-in-Err-value-2 : goal.pair-returns-in-Err-value-2
 pair-returns-in-Err-value-2 t c =
     let names = names_of c.args.consts.now in
     arm.right-left_wrong names c.args.a.now c.args.b.now c.args.reach _ _ _ _ _ c.get-else-weight.ensures c.get-in-Ok-own.ensures c.spread-in-Ok-own.ensures c.in-Ok-own.ensures.right
-        c.in-Err-value-2.ensures.wrong
+    c.in-Err-value-2.ensures.wrong
 
 pub pair-returns-in-Ok-value-2 : goal.pair-returns-in-Ok-value-2
 pair-returns-in-Ok-value-2 t c =
     let names = names_of c.args.consts.now in
     arm.right-paired names c.args.a.now c.args.b.now c.args.reach _ _ _ _ _ _ _ _ _ _ c.get-else-weight.ensures c.get-in-Ok-own.ensures c.get-in-Ok-value-2.ensures
-        c.spread-in-Ok-own.ensures c.held-left.ensures.reach c.held-left.ensures.same c.in-Ok-own.ensures.right c.in-Ok-value-2.ensures.right c.value-in-Ok-value-2.ensures
-        c.paired-in-Ok-value-2.ensures
+    c.spread-in-Ok-own.ensures c.held-left.ensures.reach c.held-left.ensures.same c.in-Ok-own.ensures.right c.in-Ok-value-2.ensures.right c.value-in-Ok-value-2.ensures
+    c.paired-in-Ok-value-2.ensures
 
 pub full-returns : goal.full-returns
 full-returns t c =

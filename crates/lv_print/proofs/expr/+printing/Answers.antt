@@ -6,7 +6,7 @@ use Rattle.lv_print.proofs.expr.+printing.Goals as goal
 pub exprs-loop-e-preserved : goal.exprs-loop-e-preserved
 exprs-loop-e-preserved t c =
     list_turn expr_tokens c.args.list.now c.loop-e.e-index c.e-item.result c.loop-e.first c.loop-e.paper c.comma.new.self c.expr.new.paper _ (omega arith) c.e-item.is c.in_ok-comma.ensures
-        c.in_ok-expr.ensures c.loop-e.invariant
+    c.in_ok-expr.ensures c.loop-e.invariant
 
 pub exprs-returns : goal.exprs-returns
 exprs-returns t c = list_end expr_tokens c.args.list.now c.loop-e.e-index c.loop-e.first c.loop-e.paper _ (omega arith) c.loop-e.invariant

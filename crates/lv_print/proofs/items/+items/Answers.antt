@@ -16,4 +16,4 @@ pub item-returns-in_ok-items-in-Generate : goal.item-returns-in_ok-items-in-Gene
 item-returns-in_ok-items-in-Generate t c =
     ok-same _ _ _ _ c.word-in-Generate-2.ensures
     (generate_written c.args.x.now c.as_slice-in-Generate.result.now c.in-Generate.list c.args.paper.now _ _ c.in-Generate.is c.as_slice-in-Generate.ensures c.in_ok-word-in-Generate.ensures
-        c.in_ok-items-in-Generate.ensures)
+    c.in_ok-items-in-Generate.ensures)

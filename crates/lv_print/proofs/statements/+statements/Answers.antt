@@ -23,7 +23,7 @@ pub stmt-returns-in_ok-stmt-in-If : goal.stmt-returns-in_ok-stmt-in-If
 stmt-returns-in_ok-stmt-in-If t c =
     ok-same _ _ _ _ c.else_if.ensures
     (if_written c.args.s.now c.in-If.then c.get.result.now c.in-If.test c.in-If.other c.args.paper.now _ _ _ c.in-If.is c.get.ensures c.in_ok-word-in-If.ensures
-        c.in_ok-condition-in-If.ensures c.in_ok-stmt-in-If.ensures)
+    c.in_ok-condition-in-If.ensures c.in_ok-stmt-in-If.ensures)
 
 pub stmt-returns-in_ok-arms-in-Case : goal.stmt-returns-in_ok-arms-in-Case
 stmt-returns-in_ok-arms-in-Case t c =

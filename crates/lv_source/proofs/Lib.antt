@@ -11,6 +11,7 @@ pub mod ClockNames
 pub mod DesignA
 pub mod DesignM
 pub mod Determined
+pub mod Early
 pub mod Distinct
 pub mod Driven
 pub mod Drives

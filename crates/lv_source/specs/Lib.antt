@@ -1,3 +1,4 @@
+pub mod Constants
 pub mod Declarations
 pub mod Drivers
 pub mod Effect

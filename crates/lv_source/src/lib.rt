@@ -15,7 +15,9 @@ ghost use Rattle.lv_source.specs.Summary.{summary, leaves_latch, exposes_own};
 ghost use Rattle.lv_source.specs.Places.{Bit};
 ghost use Rattle.lv_source.specs.Views.{View, AreViewed, views_of, named_clocks, clock_views};
 ghost use Rattle.lv_source.specs.Drivers.{Drivers, drivers, AreDriven};
-ghost use Rattle.lv_source.specs.Scopes.{Scope, module_named, children};
+ghost use Rattle.lv_source.specs.Scopes.{Scope, module_named, children, here_at};
+ghost use Rattle.lv_source.specs.Constants.{Entry, Around, entry_names, entry_constants, early_constants};
+ghost use Rattle.lv_ast.specs.declared.expr.Path.{Path};
 ghost use Rattle.lv_source.specs.Preorder.{AreScopes, AreSome, AreSomeItems};
 ghost use Rattle.lv_ast.specs.PlainNames.{HasPlainNames};
 ghost use Rattle.lv_source.specs.Faults.{faults, scope_faults};
@@ -119,4 +121,9 @@ pub fn items_only_add()
 /// Where no port is at fault, uses of clocks are told by the top and the views of parts alone.
 pub fn clock_uses_are_viewed()
     ensures { (d : Design) → places_of d Port ≡ [] → places_of d ClockUse ≡ top_clock d ++ named_clocks (views_of d) ++ clock_views (views_of d) }
+{}
+
+/// The list of constants before a place says what the names there say: a path is a constant that is declared before, with that value.
+pub fn entries_are_constants()
+    ensures { (s : Scope) (es : List Entry) (k : ℕ) (p : Path) → Around s es → entry_names (entry_constants es s k) p ≡ early_constants (here_at s k) p }
 {}

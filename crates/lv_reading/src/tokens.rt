@@ -60,6 +60,7 @@ BadByte 2=>a \ b
 BadByte 2=>a $ b
 Unclosed 2=>a /* b
 Unclosed 0=>/*/
+BadLiteral 0=>340282366920938463463374607431768211456
 BadLiteral 1=> 340282366920938463463374607431768211456
 BadLiteral 1=>1'h1ffffffffffffffffffffffffffffffff
 BadLiteral 0=>'o?000000000000000000000000000000000000000000"#;

@@ -73,43 +73,43 @@ two : {A B C : Type 0} (f : A → B → C) (x y : A) (u v : B) → x ≡ y → u
 two f x y u v h k = ap (λ z. f z u) h ∙ ap (λ z. f y z) k
 
 module _ (N M : Names) (agree : (p : Path) → is_constant_sort (known (N p)).sort ≡ true → M p ≡ N p) where
-  abbrev W1 : {n : _} → Row_of-Expr n → Walk
-  W1 r = fold_one Walk WalkStep (walk_step N) walk_select_step r
+  abbrev walk_of_one : {n : _} → Row_of-Expr n → Walk
+  walk_of_one r = fold_one Walk WalkStep (walk_step N) walk_select_step r
 
   abbrev Ws : {n : _} → Row_of-Expr n → List Walk
   Ws r = fold_exprs Walk WalkStep (walk_step N) walk_select_step r
 
-  abbrev R1 : Names → {n : _} → Row_of-Expr n → Reading
-  R1 names r = fold_one Reading Choice (read_step names) choice r
+  abbrev reading_of_one : Names → {n : _} → Row_of-Expr n → Reading
+  reading_of_one names r = fold_one Reading Choice (read_step names) choice r
 
   abbrev Rs : Names → {n : _} → Row_of-Expr n → List Reading
   Rs names r = fold_exprs Reading Choice (read_step names) choice r
 
-  abbrev Same1 : {n : _} → Row_of-Expr n → Type 0
-  Same1 r = R1 M r ≡ R1 N r
+  abbrev SameOne : {n : _} → Row_of-Expr n → Type 0
+  SameOne r = reading_of_one M r ≡ reading_of_one N r
 
-  pair_reading : (f : Reading → Reading → Reading) {n m : _} (a : Row_of-Expr n) (b : Row_of-Expr m) → Same1 a → Same1 b → f (R1 M a) (R1 M b) ≡ f (R1 N a) (R1 N b)
-  pair_reading f a b h k = two f (R1 M a) (R1 N a) (R1 M b) (R1 N b) h k
+  pair_reading : (f : Reading → Reading → Reading) {n m : _} (a : Row_of-Expr n) (b : Row_of-Expr m) → SameOne a → SameOne b → f (reading_of_one M a) (reading_of_one M b) ≡ f (reading_of_one N a) (reading_of_one N b)
+  pair_reading f a b h k = two f (reading_of_one M a) (reading_of_one N a) (reading_of_one M b) (reading_of_one N b) h k
 
-  pair_choice : (f : Reading → Reading → Choice) {n m : _} (a : Row_of-Expr n) (b : Row_of-Expr m) → Same1 a → Same1 b → f (R1 M a) (R1 M b) ≡ f (R1 N a) (R1 N b)
-  pair_choice f a b h k = two f (R1 M a) (R1 N a) (R1 M b) (R1 N b) h k
+  pair_choice : (f : Reading → Reading → Choice) {n m : _} (a : Row_of-Expr n) (b : Row_of-Expr m) → SameOne a → SameOne b → f (reading_of_one M a) (reading_of_one M b) ≡ f (reading_of_one N a) (reading_of_one N b)
+  pair_choice f a b h k = two f (reading_of_one M a) (reading_of_one N a) (reading_of_one M b) (reading_of_one N b) h k
 
-  abbrev Each1 : {n : _} → Row_of-Expr n → Type 0
-  Each1 r = (first W : ℕ) (T : Bool) → Fixed ((W1 r).sites Value (Some first) W T) → Same1 r
+  abbrev EachOne : {n : _} → Row_of-Expr n → Type 0
+  EachOne r = (first W : ℕ) (T : Bool) → Fixed ((walk_of_one r).sites Value (Some first) W T) → SameOne r
 
-  bin_left : (op : Op) {n m : _} (a : Row_of-Expr n) (b : Row_of-Expr m) → Each1 a → (first W : ℕ) (T : Bool) → Fixed (below_sites (Expr-F.Bin op (W1 a) (W1 b)) Value (Some first) W T) → Same1 a
+  bin_left : (op : Op) {n m : _} (a : Row_of-Expr n) (b : Row_of-Expr m) → EachOne a → (first W : ℕ) (T : Bool) → Fixed (below_sites (Expr-F.Bin op (walk_of_one a) (walk_of_one b)) Value (Some first) W T) → SameOne a
   bin_left op a b each first W T h =
       if_fixed (keeps_width op) _ _ h
-      (λ f. each first W T (left_of ((W1 a).sites Value (Some first) W T) _ f))
-      (λ f. if_fixed (is_apart op) _ _ f (λ g. each first _ _ (left_of (own_sites Value (Some first) (W1 a)) _ g)) (λ g. each first _ _ (left_of ((W1 a).sites Value (Some first) _ _) _ g)))
+      (λ f. each first W T (left_of ((walk_of_one a).sites Value (Some first) W T) _ f))
+      (λ f. if_fixed (is_apart op) _ _ f (λ g. each first _ _ (left_of (own_sites Value (Some first) (walk_of_one a)) _ g)) (λ g. each first _ _ (left_of ((walk_of_one a).sites Value (Some first) _ _) _ g)))
 
-  bin_right : (op : Op) {n m : _} (a : Row_of-Expr n) (b : Row_of-Expr m) → Each1 b → (first W : ℕ) (T : Bool) → Fixed (below_sites (Expr-F.Bin op (W1 a) (W1 b)) Value (Some first) W T) → Same1 b
+  bin_right : (op : Op) {n m : _} (a : Row_of-Expr n) (b : Row_of-Expr m) → EachOne b → (first W : ℕ) (T : Bool) → Fixed (below_sites (Expr-F.Bin op (walk_of_one a) (walk_of_one b)) Value (Some first) W T) → SameOne b
   bin_right op a b each first W T h =
       if_fixed (keeps_width op) _ _ h
-      (λ f. if_fixed (is_apart op) _ _ (right_of ((W1 a).sites Value (Some first) W T) _ f) (λ g. each first _ _ g) (λ g. each first W T g))
-      (λ f. if_fixed (is_apart op) _ _ f (λ g. each first _ _ (right_of (own_sites Value (Some first) (W1 a)) _ g)) (λ g. each first _ _ (right_of ((W1 a).sites Value (Some first) _ _) _ g)))
+      (λ f. if_fixed (is_apart op) _ _ (right_of ((walk_of_one a).sites Value (Some first) W T) _ f) (λ g. each first _ _ g) (λ g. each first W T g))
+      (λ f. if_fixed (is_apart op) _ _ f (λ g. each first _ _ (right_of (own_sites Value (Some first) (walk_of_one a)) _ g)) (λ g. each first _ _ (right_of ((walk_of_one a).sites Value (Some first) _ _) _ g)))
 
-  same_index : {n : _} (a : Row_of-Expr n) (constant : Bool) (first : ℕ) → Each1 a → Fixed (index_sites constant (Some first) (W1 a)) → Same1 a
+  same_index : {n : _} (a : Row_of-Expr n) (constant : Bool) (first : ℕ) → EachOne a → Fixed (index_sites constant (Some first) (walk_of_one a)) → SameOne a
   same_index a true first each h = each _ _ _ h
   same_index a false first each h = each first _ _ h
 
@@ -125,30 +125,30 @@ module _ (N M : Names) (agree : (p : Path) → is_constant_sort (known (N p)).so
         (same_selects ss (is_driven role) first (λ y i. h y (inr i)))
     same (e.Un' op n a) role first W T h =
         ap (λ (r : Reading). read_step N (Expr-F.Un op r))
-        (if_fixed (keeps_width op) ((W1 a).sites Value (Some first) W T) (own_sites Value (Some first) (W1 a)) (λ y i. h y (inr i)) (λ f. same_one a Value first W T f) (λ f. same_one a Value first _ _ f))
+        (if_fixed (keeps_width op) ((walk_of_one a).sites Value (Some first) W T) (own_sites Value (Some first) (walk_of_one a)) (λ y i. h y (inr i)) (λ f. same_one a Value first W T f) (λ f. same_one a Value first _ _ f))
     same (e.Bin' op n a m b) role first W T h =
         pair_reading (λ (r q : Reading). read_step N (Expr-F.Bin op r q)) a b (bin_left op a b (λ f w u g. same_one a Value f w u g) first W T (λ y i. h y (inr i)))
         (bin_right op a b (λ f w u g. same_one b Value f w u g) first W T (λ y i. h y (inr i)))
     same (e.Div' n a m b) role first W T h =
-        pair_reading (λ (r q : Reading). read_step N (Expr-F.Div r q)) a b (same_one a Value first W T (left_of _ ((W1 b).sites Value (Some first) W T) (λ y i. h y (inr i))))
-        (same_one b Value first W T (right_of ((W1 a).sites Value (Some first) W T) _ (λ y i. h y (inr i))))
+        pair_reading (λ (r q : Reading). read_step N (Expr-F.Div r q)) a b (same_one a Value first W T (left_of _ ((walk_of_one b).sites Value (Some first) W T) (λ y i. h y (inr i))))
+        (same_one b Value first W T (right_of ((walk_of_one a).sites Value (Some first) W T) _ (λ y i. h y (inr i))))
     same (e.Rem' n a m b) role first W T h =
-        pair_reading (λ (r q : Reading). read_step N (Expr-F.Rem r q)) a b (same_one a Value first W T (left_of _ ((W1 b).sites Value (Some first) W T) (λ y i. h y (inr i))))
-        (same_one b Value first W T (right_of ((W1 a).sites Value (Some first) W T) _ (λ y i. h y (inr i))))
+        pair_reading (λ (r q : Reading). read_step N (Expr-F.Rem r q)) a b (same_one a Value first W T (left_of _ ((walk_of_one b).sites Value (Some first) W T) (λ y i. h y (inr i))))
+        (same_one b Value first W T (right_of ((walk_of_one a).sites Value (Some first) W T) _ (λ y i. h y (inr i))))
     same (e.Cond' n c m a k b) role first W T h =
-        let all : Fixed ((own_sites Value (Some first) (W1 c) ++ (W1 a).sites Value (Some first) W T) ++ (W1 b).sites Value (Some first) W T) = (λ y i. h y (inr i)) in
-        let front : Fixed (own_sites Value (Some first) (W1 c) ++ (W1 a).sites Value (Some first) W T) = left_of _ ((W1 b).sites Value (Some first) W T) all in
-        ap (λ (r : Reading). read_step N (Expr-F.Cond r (R1 M a) (R1 M b))) (same_one c Value first _ _ (left_of (own_sites Value (Some first) (W1 c)) ((W1 a).sites Value (Some first) W T) front)) ∙
-        pair_reading (λ (r q : Reading). read_step N (Expr-F.Cond (R1 N c) r q)) a b (same_one a Value first W T (right_of (own_sites Value (Some first) (W1 c)) _ front))
-        (same_one b Value first W T (right_of (own_sites Value (Some first) (W1 c) ++ (W1 a).sites Value (Some first) W T) _ all))
+        let all : Fixed ((own_sites Value (Some first) (walk_of_one c) ++ (walk_of_one a).sites Value (Some first) W T) ++ (walk_of_one b).sites Value (Some first) W T) = (λ y i. h y (inr i)) in
+        let front : Fixed (own_sites Value (Some first) (walk_of_one c) ++ (walk_of_one a).sites Value (Some first) W T) = left_of _ ((walk_of_one b).sites Value (Some first) W T) all in
+        ap (λ (r : Reading). read_step N (Expr-F.Cond r (reading_of_one M a) (reading_of_one M b))) (same_one c Value first _ _ (left_of (own_sites Value (Some first) (walk_of_one c)) ((walk_of_one a).sites Value (Some first) W T) front)) ∙
+        pair_reading (λ (r q : Reading). read_step N (Expr-F.Cond (reading_of_one N c) r q)) a b (same_one a Value first W T (right_of (own_sites Value (Some first) (walk_of_one c)) _ front))
+        (same_one b Value first W T (right_of (own_sites Value (Some first) (walk_of_one c) ++ (walk_of_one a).sites Value (Some first) W T) _ all))
     same (e.Cat' n es) role first W T h = ap (λ (rs : List Reading). read_step N (Expr-F.Cat rs)) (same_all es (joined_role role) first (λ y i. h y (inr i)))
     same (e.Rep' n a m es) role first W T h =
-        two (λ (r : Reading) (rs : List Reading). read_step N (Expr-F.Rep r rs)) (R1 M a) (R1 N a) (Rs M es) (Rs N es)
-        (same_one a Value _ _ _ (left_of (fixed_sites (W1 a)) (flat_map (own_sites Joined (Some first)) (Ws es)) (λ y i. h y (inr i))))
-        (same_all es Joined first (right_of (fixed_sites (W1 a)) (flat_map (own_sites Joined (Some first)) (Ws es)) (λ y i. h y (inr i))))
+        two (λ (r : Reading) (rs : List Reading). read_step N (Expr-F.Rep r rs)) (reading_of_one M a) (reading_of_one N a) (Rs M es) (Rs N es)
+        (same_one a Value _ _ _ (left_of (fixed_sites (walk_of_one a)) (flat_map (own_sites Joined (Some first)) (Ws es)) (λ y i. h y (inr i))))
+        (same_all es Joined first (right_of (fixed_sites (walk_of_one a)) (flat_map (own_sites Joined (Some first)) (Ws es)) (λ y i. h y (inr i))))
     same (e.Cast' signed n a) role first W T h = ap (λ (r : Reading). read_step N (Expr-F.Cast signed r)) (same_one a Value first _ _ (λ y i. h y (inr i)))
 
-    same_one : {n : _} (r : Row_of-Expr n) (role : Role) (first W : ℕ) (T : Bool) → Fixed ((W1 r).sites role (Some first) W T) → Same1 r
+    same_one : {n : _} (r : Row_of-Expr n) (role : Role) (first W : ℕ) (T : Bool) → Fixed ((walk_of_one r).sites role (Some first) W T) → SameOne r
     same_one end_of-Expr role first W T h = refl
     same_one (more_of-Expr x xs) role first W T h = same x role first W T h
 
@@ -163,13 +163,13 @@ module _ (N M : Names) (agree : (p : Path) → is_constant_sort (known (N p)).so
         fold_select Reading Choice (read_step M) choice x ≡ fold_select Reading Choice (read_step N) choice x
     same_select (s.Bit' n a) constant first h = ap (λ (r : Reading). let c : Choice = Select-F.Bit r in c) (same_index a constant first (λ f w u g. same_one a Value f w u g) h)
     same_select (s.Part' n a m b) constant first h =
-        pair_choice (λ (r q : Reading). Select-F.Part r q) a b (same_one a Value _ _ _ (left_of (fixed_sites (W1 a)) (fixed_sites (W1 b)) h)) (same_one b Value _ _ _ (right_of (fixed_sites (W1 a)) (fixed_sites (W1 b)) h))
+        pair_choice (λ (r q : Reading). Select-F.Part r q) a b (same_one a Value _ _ _ (left_of (fixed_sites (walk_of_one a)) (fixed_sites (walk_of_one b)) h)) (same_one b Value _ _ _ (right_of (fixed_sites (walk_of_one a)) (fixed_sites (walk_of_one b)) h))
     same_select (s.Up' n a m b) constant first h =
-        pair_choice (λ (r q : Reading). Select-F.Up r q) a b (same_index a constant first (λ f w u g. same_one a Value f w u g) (left_of (index_sites constant (Some first) (W1 a)) (fixed_sites (W1 b)) h))
-        (same_one b Value _ _ _ (right_of (index_sites constant (Some first) (W1 a)) (fixed_sites (W1 b)) h))
+        pair_choice (λ (r q : Reading). Select-F.Up r q) a b (same_index a constant first (λ f w u g. same_one a Value f w u g) (left_of (index_sites constant (Some first) (walk_of_one a)) (fixed_sites (walk_of_one b)) h))
+        (same_one b Value _ _ _ (right_of (index_sites constant (Some first) (walk_of_one a)) (fixed_sites (walk_of_one b)) h))
     same_select (s.Down' n a m b) constant first h =
-        pair_choice (λ (r q : Reading). Select-F.Down r q) a b (same_index a constant first (λ f w u g. same_one a Value f w u g) (left_of (index_sites constant (Some first) (W1 a)) (fixed_sites (W1 b)) h))
-        (same_one b Value _ _ _ (right_of (index_sites constant (Some first) (W1 a)) (fixed_sites (W1 b)) h))
+        pair_choice (λ (r q : Reading). Select-F.Down r q) a b (same_index a constant first (λ f w u g. same_one a Value f w u g) (left_of (index_sites constant (Some first) (walk_of_one a)) (fixed_sites (walk_of_one b)) h))
+        (same_one b Value _ _ _ (right_of (index_sites constant (Some first) (walk_of_one a)) (fixed_sites (walk_of_one b)) h))
 
     same_selects : {n : _} (r : Row_of-Select n) (constant : Bool) (first : ℕ) → Fixed (flat_map (step_sites constant (Some first)) (fold_selects Walk WalkStep (walk_step N) walk_select_step r)) →
         fold_selects Reading Choice (read_step M) choice r ≡ fold_selects Reading Choice (read_step N) choice r

@@ -50,6 +50,7 @@ pub mod Settles
 pub mod SettlesA
 pub mod Shaped
 pub mod Summaries
+pub mod Surrounded
 pub mod Tables
 pub mod Tests
 pub mod Trees

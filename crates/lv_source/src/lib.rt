@@ -127,3 +127,8 @@ pub fn clock_uses_are_viewed()
 pub fn entries_are_constants()
     ensures { (s : Scope) (es : List Entry) (k : ℕ) (p : Path) → Around s es → entry_names (entry_constants es s k) p ≡ early_constants (here_at s k) p }
 {}
+
+/// Each scope of the design has a list of the constants around it.
+pub fn scopes_have_constants()
+    ensures { (d : Design) (s : Scope) → Contains (scopes_of d) s → (es : List Entry) × Around s es }
+{}

@@ -53,6 +53,7 @@ pub mod Summaries
 pub mod Surrounded
 pub mod Tables
 pub mod Tests
+pub mod TopClock
 pub mod Trees
 pub mod Turns
 pub mod Unique

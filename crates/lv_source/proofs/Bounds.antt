@@ -1,6 +1,6 @@
 -- The bounds of a legal source's arrays are small: they read constants alone, which are those of the parameters, so Range speaks of the same numbers.
-use Rattle.std.proofs.Common.{◌≡◌, inl, inr, ℕ, zero, suc, ◌+◌, ◌<◌, ◌≤◌, ◌^◌, arith, Bool, true, false, ◌&&◌, ◌||◌, not, List, [], ◌∷◌, ◌++◌, map, refl, sym, ap, ◌∙◌, subst, Option, Some, None}
-use Rattle.std.specs.Prelude.{bytes_eq, flat_map, if◌then◌else◌, nat_le, Contains, ℤ, pos, negsuc}
+use Rattle.std.proofs.Common.{◌≡◌, inl, inr, ℕ, suc, ◌<◌, ◌≤◌, ◌^◌, arith, Bool, true, false, ◌&&◌, ◌||◌, not, List, [], ◌∷◌, ◌++◌, refl, sym, ap, ◌∙◌, subst, Option, Some, None}
+use Rattle.std.specs.Prelude.{bytes_eq, flat_map, if◌then◌else◌, ℤ, pos, negsuc}
 use Rattle.std.specs.List.{list_any}
 use Rattle.std.proofs.lemmas.Bool.Decides.{nat_tests}
 use Rattle.lv_bits.specs.declared.op.Op.{Op}
@@ -12,7 +12,7 @@ use Rattle.lv_ast.specs.declared.expr.Expr.TheOpen.{Expr-F, Select-F}
 use Rattle.lv_ast.specs.declared.expr.Select.{Select}
 use Rattle.lv_ast.specs.declared.expr.Select.TheVariants as s
 use Rattle.lv_ast.specs.declared.item.Range.{Range}
-use Rattle.lv_ast.specs.Trees.{fold_expr, fold_exprs, fold_one, fold_select, fold_selects}
+use Rattle.lv_ast.specs.Trees.{fold_exprs, fold_one, fold_select, fold_selects}
 use Rattle.lv_ast.specs.declared.stmt.Ident.{Ident}
 use Rattle.lv_ast.specs.declared.item.Module.{Module}
 use Rattle.lv_ast.specs.declared.item.Source.{Source}
@@ -27,7 +27,7 @@ use Rattle.lv_source.specs.Parts.{Design, numbered_from, stands_here, by_place, 
 use Rattle.lv_source.specs.ScopeRules.{place_if, range_sites, declaration_sites, scope_spots, is_range, range_fault, not_constants, unknown_names, ranges}
 use Rattle.lv_source.specs.Legal.{IsLegal, NotConstant, UnknownName, places_of}
 use Rattle.lv_source.specs.Legal.{Range as Range_kind}
-use Rattle.lv_source.proofs.Tests.{and-left, and-right}
+use Rattle.lv_source.proofs.Tests.{and-left, and-right, or-none_left}
 use Rattle.lv_source.proofs.Facts.{some_same}
 use Rattle.lv_source.proofs.FaultLaws.{in-flat, append-left, append-right, scopes_clean}
 use Rattle.lv_source.proofs.Trees.{in-from}
@@ -323,7 +323,7 @@ module _ (source : Source) (u : Scope) (h : IsShaped u) (constant : not_constant
       is_signal_sort (known (stands_for h.constants u.path h.top clock (alone m) xs)).sort ≡ true → (b : Bounds) → (known (stands_for h.constants u.path h.top clock (alone m) xs)).array ≡ Some b → high b < 2 ^ 64
   stands_small clock m [] d i f k b e = absurd i
   stands_small clock m (c ∷ cs) d i f k b e =
-      thing_small c.name (sort_of h.top clock (c ∷ cs)) (alone m) c.thing (λ r q. array_small c r (f c (inl refl)).0 q) (λ q. h.fixed m c (f c (inl refl)).0 (f c (inl refl)).1 q) k b e
+      thing_small c.name (sort_of h.top clock (c ∷ cs)) (alone m) c.thing (λ r q. array_small c r (f c (inl refl)).0 q) (λ q. or-none_left _ _ (h.fixed m c (f c (inl refl)).0 (f c (inl refl)).1 q)) k b e
 
   signal_small : (x : Declared) → In x (scope_signals u) → (b : Bounds) → x.array ≡ Some b → high b < 2 ^ 64
   signal_small x i b e =

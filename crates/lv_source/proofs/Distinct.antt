@@ -1,7 +1,7 @@
 -- The cells of all signals of a legal source are distinct, one by one as they are listed, where its loops end within the limit.
 use Rattle.std.proofs.Common.{◌≡◌, ◌⊎◌, inl, inr, ℕ, zero, suc, ◌+◌, ◌<◌, ◌≤◌, ◌^◌, arith, Bool, true, false, ◌&&◌, not, List, [], ◌∷◌, ◌++◌, map, length, refl, sym, ap, ◌∙◌, subst, Option, Some, None}
 use Rattle.std.specs.Prelude.{bytes_eq, flat_map, filter, take, sum, decimal, slice_get, pos, nat_le, if◌then◌else◌}
-use Rattle.std.specs.List.{list_any, list_all, range_with_len, IsDistinct, AllByRecursion}
+use Rattle.std.specs.List.{list_any, range_with_len, IsDistinct, AllByRecursion}
 use Rattle.std.proofs.lemmas.Fmt.{decimal_injective}
 use Rattle.std.proofs.lemmas.List.Sums.{sum_by-cons}
 use Rattle.lv_ast.specs.declared.stmt.Ident.{Ident}
@@ -14,22 +14,22 @@ use Rattle.lv_ast.specs.declared.item.Source.{Source}
 use Rattle.lv_ast.specs.Trees.{spread_all}
 use Rattle.lv_ast.specs.PlainNames.{plain_module, HasPlainNames}
 use Rattle.lv_ast.specs.Names.{Name, alone, spelled, below, at_index}
-use Rattle.lv_source.specs.Names.{Bounds, Declared, Sort, Input, Net, Variable, Clock, Constant, Index, Other, known, low, high, size, is_signal_sort, is_variable_sort, is_input_sort}
+use Rattle.lv_source.specs.Names.{Bounds, Declared, Sort, Input, Net, Variable, Clock, Constant, Index, Other, known, low, high, size, is_signal_sort, is_clock_sort, is_variable_sort, is_input_sort}
 use Rattle.lv_source.specs.Places.{cells, cells_by}
 use Rattle.lv_source.specs.Effect.{turns}
 use Rattle.lv_source.specs.Declarations.{Label, Declaration, declare, of_item, of_items, declared_as}
 use Rattle.lv_source.specs.Meaning.{is_nil}
 use Rattle.lv_source.specs.Scopes.{Scope, module_named, instance_scope, instance_scopes, turn_scope, is_among, is_direction, children, children_by, counted_from, scopes_within}
-use Rattle.lv_source.specs.Parts.{Design, numbered_from, is_first, stands_here, put_by_place, by_place, scope_signals, signals_of, scopes_from, scopes_of, depth, top_scope, parts, is_register, register_signals, registers_of, inputs_of}
+use Rattle.lv_source.specs.Parts.{Design, numbered_from, is_first, stands_here, put_by_place, by_place, scope_signals, signals_of, scopes_from, scopes_of, depth, top_scope, parts, is_register, registers_of, inputs_of}
 use Rattle.lv_source.specs.Limits.{Size, nodes_alone, params_nodes, ports_nodes, item_size, scope_size, design_size, IsWithinLimits}
 use Rattle.lv_source.specs.ScopeRules.{duplicates}
 use Rattle.lv_source.specs.Legal.{IsLegal, Duplicate, modules_again, places_of}
-use Rattle.lv_source.proofs.Tests.{and-left, and-right, same_name, name-itself, decide, not-true, or-left, or-right, or-split}
+use Rattle.lv_source.proofs.Tests.{and-left, and-right, same_name, name-itself, decide, not-true, or-left, or-right}
 use Rattle.lv_source.proofs.Refused.{In, in-right}
 use Rattle.lv_source.proofs.FaultLaws.{in-flat, append-right, scopes_clean}
 use Rattle.lv_source.proofs.Paths.{IsPlain, IsIndex, ends, split_step, split_index, same_rest, left_same, below_same}
-use Rattle.lv_source.proofs.Trees.{HasCell, IsTold, AllTold, KidCell, OwnCell, in-from, indexed, signed_plain, cell_index, told_child, own_cell, own_kid, kid_cell, one_path}
-use Rattle.lv_source.proofs.Kids.{Once, once, once-left, once-right, AllPlain, plain_left, plain_right, of_inst, cross_heads, inst_headed, insts_headed, item_headed, items_headed, turn_path, index_text, index_text_is, index_text_same, turns_small, same_head, mapped-from, named_any, in_index, in_take}
+use Rattle.lv_source.proofs.Trees.{HasCell, AllTold, in-from, indexed, signed_plain, cell_index, own_cell, own_kid, kid_cell, one_path}
+use Rattle.lv_source.proofs.Kids.{Once, once, once-left, once-right, AllPlain, plain_left, plain_right, of_inst, cross_heads, inst_headed, insts_headed, item_headed, items_headed, turn_path, index_text, index_text_is, index_text_same, turns_small, same_head, named_any, in_index, in_take}
 use Rattle.lv_source.proofs.Shaped.{IsShaped, in_put, in_if, in_sorted, own_path, module_shaped, all_shaped, all_in, found_in, told}
 use Rattle.lv_source.proofs.Given.{any_in, mapped_in}
 use Rattle.lv_source.proofs.Drives.{cell_one}
@@ -220,7 +220,7 @@ module _ (s : Scope) (h : IsShaped s) where
         among = among;
         at = at;
         is = is;
-        path = ap (λ (x : Declared). x.path) (sym is) ∙ own_path s h kx.1 among sort;
+        path = ap (λ (x : Declared). x.path) (sym is) ∙ own_path s h kx.1 among (or-left (is_signal_sort (given kx.1).sort) (is_clock_sort (given kx.1).sort) sort);
         first = and-right (is_signal_sort (given kx.1).sort) _ here.0;
       }
 

@@ -1,9 +1,9 @@
 -- Each bit that a part drives is a bit of a signal that the names of its scope give.
-use Rattle.std.proofs.Common.{◌≡◌, inl, inr, ℕ, Bool, true, false, List, [], ◌∷◌, ◌++◌, map, refl, sym, ap, ◌∙◌, Option, Some, None}
+use Rattle.std.proofs.Common.{◌≡◌, inl, inr, ℕ, Bool, true, false, List, [], ◌∷◌, ◌++◌, map, refl, Option, Some, None}
 use Rattle.std.specs.Prelude.{flat_map, bytes_eq, if◌then◌else◌, ◌&&◌}
 use Rattle.lv_ast.specs.declared.expr.Path.{Path}
 use Rattle.lv_ast.specs.declared.expr.Expr.{Expr}
-use Rattle.lv_ast.specs.declared.expr.Expr.TheOpen.{Expr-F, Select-F}
+use Rattle.lv_ast.specs.declared.expr.Expr.TheOpen.{Expr-F}
 use Rattle.lv_ast.specs.declared.stmt.Target.{Target, Row_of-Target, end_of-Target, more_of-Target}
 use Rattle.lv_ast.specs.declared.stmt.Target.TheVariants as t
 use Rattle.lv_ast.specs.declared.stmt.Stmt.{Stmt, Row_of-Stmt, end_of-Stmt, more_of-Stmt, Row_of-Arm, end_of-Arm, more_of-Arm, Held-Stmt-If-2, None', Some'}
@@ -16,12 +16,12 @@ use Rattle.lv_source.specs.Values.{nowhere}
 use Rattle.lv_source.specs.Places.{Bit, has_bit, same_bit, place_bits, place_of, whole}
 use Rattle.lv_source.specs.Meaning.{Choice, all_constant, meant, bits_named, read_expr}
 use Rattle.lv_source.specs.Effect.{Piece, pieces, piece_step, Arm, ArmOf, arm_step, read_arm, with_index, turns, is_met}
-use Rattle.lv_source.specs.Flow.{Event, Flow, Flows, writes_of, event_writes, block_writes, all_flows, either_flow, branches, flow_or, flow_step, flow}
+use Rattle.lv_source.specs.Flow.{Event, Flow, Flows, writes_of, event_writes, block_writes, all_flows, either_flow, flow_or, flow_step, flow}
 use Rattle.lv_source.specs.Parts.{Sink, Body, Part, Assign, Comb, Clocked, sink_step, read_choice, join_targets, as_target, drives}
 use Rattle.lv_source.proofs.Each.{Each, each-join}
 use Rattle.lv_source.proofs.Tests.{any-split}
 use Rattle.lv_source.proofs.Refused.{In}
-use Rattle.lv_source.proofs.Induction.{Below, Inside, of_expr}
+use Rattle.lv_source.proofs.Induction.{Below, of_expr}
 use Rattle.lv_source.proofs.Within.{place_within}
 
 module _ (ss : List Declared) where

@@ -1,5 +1,5 @@
 -- Each bit that a part of a legal source with plain names drives is a bit of one of its signals, at the width of its name.
-use Rattle.std.proofs.Common.{◌≡◌, inl, inr, ℕ, ◌+◌, ◌<◌, zero, suc, arith, Bool, true, false, ◌&&◌, ◌||◌, ◌==◌, List, [], ◌∷◌, ◌++◌, map, length, refl, sym, ap, ◌∙◌, subst, Option, Some, None}
+use Rattle.std.proofs.Common.{◌≡◌, inl, inr, ℕ, ◌+◌, ◌<◌, zero, suc, arith, Bool, true, false, ◌==◌, List, [], ◌∷◌, map, length, refl, sym, ap, ◌∙◌, subst, Option, Some, None}
 use Rattle.std.specs.Prelude.{bytes_eq, flat_map, slice_get, if◌then◌else◌}
 use Rattle.std.specs.List.{list_any, range_with_len}
 use Rattle.std.proofs.lemmas.Bool.{eqb-true}
@@ -23,7 +23,7 @@ use Rattle.lv_source.specs.Declarations.{of_item}
 use Rattle.lv_source.specs.Scopes.{Scope, Link, module_named, instance_scopes, children, children_by, counted_from}
 use Rattle.lv_source.specs.Sites.{Site, expr_sites, sink_sites}
 use Rattle.lv_source.specs.PartSites.{port_width, assign_sites}
-use Rattle.lv_source.specs.Parts.{Design, Part, Body, Assign, part, net_part, output_part, link_body, link_part, instance_parts, whole_piece, always_body, item_parts, scope_parts, parts, scopes_of, signals_of, whole_value, as_target, links_to, option_list, drives, is_clocked, width_from, width_at}
+use Rattle.lv_source.specs.Parts.{Design, Part, Assign, part, net_part, output_part, link_body, link_part, instance_parts, whole_piece, always_body, item_parts, scope_parts, parts, scopes_of, signals_of, whole_value, as_target, links_to, option_list, width_from, width_at}
 use Rattle.lv_source.specs.Legal.{IsLegal}
 use Rattle.lv_ast.specs.PlainNames.{HasPlainNames}
 use Rattle.lv_source.specs.Settled.{HasApartSignals}

@@ -10,12 +10,11 @@ use Rattle.lv_ast.specs.declared.stmt.Ident.{Ident}
 use Rattle.lv_ast.specs.declared.item.Item.{Item}
 use Rattle.lv_ast.specs.declared.item.Module.{Module}
 use Rattle.lv_ast.specs.Names.{Name, has_no_steps, alone}
-use Rattle.lv_source.specs.Names.{Names, Here, Declared, Sort, Constant, Other, is_constant_sort, with_name}
+use Rattle.lv_source.specs.Names.{Names, Declared, Sort, Constant, Other, is_constant_sort, with_name}
 use Rattle.lv_source.specs.Names.{Index as Index_sort}
 use Rattle.lv_source.specs.Effect.{with_index}
 use Rattle.lv_source.specs.Declarations.{Thing, Direction, Wire, Reg, Parameter, Index, Instance, Label, Declaration, of_items, of_module, declared_as}
 use Rattle.lv_source.specs.Scopes.{Scope, Override, is_parameter, no_names, with_parameters, overridden, override_of, signal, other, sort_of, is_among, is_one_bit_input, stands_for, scope_names, module_scope, turn_scope, early_by, early_at, here_at}
-use Rattle.lv_source.specs.NodeRules.{is_early}
 use Rattle.lv_source.specs.Constants.{Entry, last_value, entry_names, early_or_none, early_constants, hidden, parameter_entry, entry_constants, index_entry, Around, in_module, in_turn}
 use Rattle.lv_source.proofs.Tests.{decide, same_name, name-itself}
 

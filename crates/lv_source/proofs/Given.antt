@@ -1,10 +1,10 @@
 -- Each signal that the names of a scope of the design give is one of its signals.
-use Rattle.std.proofs.Common.{◌≡◌, inl, inr, ℕ, ◌+◌, zero, suc, arith, Bool, true, false, ◌&&◌, ◌||◌, not, List, [], ◌∷◌, ◌++◌, map, length, refl, sym, ap, ◌∙◌, subst, Option, Some, None}
+use Rattle.std.proofs.Common.{◌≡◌, inl, inr, ℕ, ◌+◌, zero, suc, arith, Bool, true, false, ◌&&◌, ◌||◌, not, List, [], ◌∷◌, ◌++◌, map, refl, sym, ap, ◌∙◌, subst, Option, Some, None}
 use Rattle.std.specs.Prelude.{bytes_eq, flat_map, filter, cond, take, nat_le, if◌then◌else◌}
 use Rattle.std.specs.List.{list_any}
 use Rattle.lv_ast.specs.declared.expr.Path.{Path}
 use Rattle.lv_ast.specs.declared.stmt.Ident.{Ident}
-use Rattle.lv_ast.specs.declared.item.Item.{Item, Row_of-Item}
+use Rattle.lv_ast.specs.declared.item.Item.{Item}
 use Rattle.lv_ast.specs.declared.item.Item.TheVariants as i
 use Rattle.lv_ast.specs.declared.item.Conn.{Conn}
 use Rattle.lv_ast.specs.declared.item.Inst.{Inst}
@@ -15,15 +15,15 @@ use Rattle.lv_ast.specs.Names.{Name, alone, has_no_steps}
 use Rattle.lv_source.specs.Names.{Names, Declared, Sort, Other, known, with_name, is_signal_sort}
 use Rattle.lv_source.specs.Names.{Index as Index_sort}
 use Rattle.lv_source.specs.Effect.{with_index, turns}
-use Rattle.lv_source.specs.Declarations.{Thing, Direction, Wire, Reg, Parameter, Index, Instance, Label, Declaration, of_item, of_items, of_module, port_names, declared_as}
+use Rattle.lv_source.specs.Declarations.{Thing, Direction, Wire, Reg, Parameter, Index, Instance, Label, Declaration, of_module, port_names, declared_as}
 use Rattle.lv_source.specs.Scopes.{Scope, Override, with_parameters, overridden, override_of, signal, other, stands_for, scope_names, sort_of, is_among, is_direction, module_scope, turn_scope, no_names, module_named, overrides, clock_by, links, instance_scope, instance_scopes, is_one_bit_input, children, children_by, counted_from, scopes_within}
 use Rattle.lv_source.specs.Meaning.{is_nil}
-use Rattle.lv_source.specs.Parts.{Design, numbered_from, is_first, stands_here, put_by_place, by_place, scope_signals, signals_of, scopes_from, scopes_of, depth, top_scope}
-use Rattle.lv_source.proofs.Tests.{and-left, and-right, and-both, or-left, or-right, or-split, or-none_left, or-none_right, decide, same_name, name-itself, not-true}
-use Rattle.lv_source.proofs.Refused.{In, in-split}
+use Rattle.lv_source.specs.Parts.{Design, numbered_from, is_first, declares_here, put_by_place, by_place, scope_signals, signals_of, scopes_from, scopes_of, depth, top_scope}
+use Rattle.lv_source.proofs.Tests.{and-left, and-right, and-both, or-left, or-right, or-split, or-none_left, or-none_right, decide, same_name, name-itself}
+use Rattle.lv_source.proofs.Refused.{In}
 use Rattle.lv_source.proofs.FaultLaws.{in-flat}
 use Rattle.lv_source.proofs.Trees.{in-from}
-use Rattle.lv_source.proofs.Kids.{mapped-from, named_any, instance_if}
+use Rattle.lv_source.proofs.Kids.{mapped-from, instance_if}
 use Rattle.lv_source.proofs.Shaped.{over_fixed, filter_in}
 use Rattle.lv_source.proofs.Driven.{Knows, index_by, index_known}
 
@@ -153,23 +153,27 @@ leads ds n d i e =
           (if_second (list_any is_direction (declared_as n ds)) _ _ k (none_kept (named_as n) f.before f.none)))
     ]
 
-here_by : (s : Scope) (l : Declaration) (k : ℕ) (n : Name) → l.name.name ≡ n → is_signal_sort (known (s.names (alone n))).sort ≡ true →
-    is_first (is_direction l) (declared_as n (take k s.declarations)) (declared_as n s.declarations) ≡ true → In (l.name.place, known (s.names (alone l.name.name))) (stands_here s (k, l))
-here_by s l k n e h f =
+here_by : (is : Sort → Bool) (s : Scope) (l : Declaration) (k : ℕ) (n : Name) → l.name.name ≡ n → is (known (s.names (alone n))).sort ≡ true →
+    is_first (is_direction l) (declared_as n (take k s.declarations)) (declared_as n s.declarations) ≡ true → In (l.name.place, known (s.names (alone l.name.name))) (declares_here is s (k, l))
+here_by is s l k n e h f =
     let m : Name = l.name.name in
     if_in _ (l.name.place, known (s.names (alone m)))
-    (and-both (is_signal_sort (known (s.names (alone m))).sort) _ (ap (λ (x : Name). is_signal_sort (known (s.names (alone x))).sort) e ∙ h)
+    (and-both (is (known (s.names (alone m))).sort) _ (ap (λ (x : Name). is (known (s.names (alone x))).sort) e ∙ h)
     (ap (λ (x : Name). is_first (is_direction l) (declared_as x (take k s.declarations)) (declared_as x s.declarations)) e ∙ f))
 
--- a declared name that is a signal is one of the signals of its scope
-own_in : (s : Scope) (n : Name) (d : Declaration) → In d s.declarations → d.name.name ≡ n → is_signal_sort (known (s.names (alone n))).sort ≡ true →
-    In (known (s.names (alone n))) (scope_signals s)
-own_in s n d i e h =
+-- the entries of a scope of these sorts
+abbrev pub entries : (Sort → Bool) → Scope → List Declared
+entries is s = map (λ (kx : ℕ × Declared). kx.1) (by_place (flat_map (declares_here is s) (numbered_from 0 s.declarations)))
+
+-- a declared name of such a sort is one of them
+pub own_in : (is : Sort → Bool) (s : Scope) (n : Name) (d : Declaration) → In d s.declarations → d.name.name ≡ n → is (known (s.names (alone n))).sort ≡ true →
+    In (known (s.names (alone n))) (entries is s)
+own_in is s n d i e h =
     let l : Leads s.declarations n = leads s.declarations n d i e in
     let x : ℕ × Declared = (l.it.name.place, known (s.names (alone l.it.name.name))) in
-    let all : List (ℕ × Declared) = flat_map (stands_here s) (numbered_from 0 s.declarations) in
-    let stands : In x all = in-flat (stands_here s) (l.number, l.it) x (numbered_from 0 s.declarations) l.among (here_by s l.it l.number n l.named h l.first) in
-    subst (λ (m : Name). In (known (s.names (alone m))) (scope_signals s)) l.named (mapped_in (λ (kx : ℕ × Declared). kx.1) x (by_place all) (sorted_in x all stands))
+    let all : List (ℕ × Declared) = flat_map (declares_here is s) (numbered_from 0 s.declarations) in
+    let stands : In x all = in-flat (declares_here is s) (l.number, l.it) x (numbered_from 0 s.declarations) l.among (here_by is s l.it l.number n l.named h l.first) in
+    subst (λ (m : Name). In (known (s.names (alone m))) (entries is s)) l.named (mapped_in (λ (kx : ℕ × Declared). kx.1) x (by_place all) (sorted_in x all stands))
 
 -- ---- the names of a scope
 
@@ -250,7 +254,7 @@ module _ (ss : List Declared) where
       let alone_is : s.names (alone p.name) ≡ stands_for constants s.path f.top (is_among f.clocks p.name) (alone p.name) xs = at (alone p.name) in
       let alone_fine : (d : Declaration) → In d xs → Fine (stands_for constants s.path f.top (is_among f.clocks p.name) (alone p.name) xs) =
       (λ d i. subst (λ (o : Option Declared). Fine o) alone_is
-      (λ h. own (known (s.names (alone p.name))) (own_in s p.name d (filter_in p.name s.declarations d i).0 (filter_in p.name s.declarations d i).1 h))) in
+      (λ h. own (known (s.names (alone p.name))) (own_in is_signal_sort s p.name d (filter_in p.name s.declarations d i).0 (filter_in p.name s.declarations d i).1 h))) in
       subst (λ (o : Option Declared). Fine o) (sym (at p))
       (steps_fine (has_no_steps p) (stands_for constants s.path f.top (is_among f.clocks p.name) p xs)
       (λ e. stands_fine constants s.path f.top (is_among f.clocks p.name) p (alone p.name) xs (params_known f.settings f.base s.declarations f.known_base p) alone_fine))

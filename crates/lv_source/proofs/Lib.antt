@@ -50,8 +50,10 @@ pub mod Settles
 pub mod SettlesA
 pub mod Shaped
 pub mod Summaries
+pub mod Surrounded
 pub mod Tables
 pub mod Tests
+pub mod TopClock
 pub mod Trees
 pub mod Turns
 pub mod Unique

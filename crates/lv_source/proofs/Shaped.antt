@@ -1,5 +1,5 @@
 -- Each scope of a source with plain names is told by its names: its signals stand below its path, by the names of its declarations.
-use Rattle.std.proofs.Common.{◌≡◌, ◌⊎◌, inl, inr, ℕ, ◌+◌, zero, suc, Bool, true, false, ◌&&◌, not, List, [], ◌∷◌, ◌++◌, map, length, refl, sym, ap, ◌∙◌, subst, Option, Some, None}
+use Rattle.std.proofs.Common.{◌≡◌, ◌⊎◌, inl, inr, ℕ, ◌+◌, zero, suc, Bool, true, false, ◌&&◌, List, [], ◌∷◌, ◌++◌, map, length, refl, sym, ap, ◌∙◌, subst, Option, Some, None}
 use Rattle.std.specs.Prelude.{bytes_eq, flat_map, filter, cond, find, nat_le, if◌then◌else◌, slice_get}
 use Rattle.std.specs.List.{list_all}
 use Rattle.lv_ast.specs.declared.expr.Path.{Path}
@@ -12,13 +12,13 @@ use Rattle.lv_ast.specs.declared.item.Range.{Range}
 use Rattle.lv_ast.specs.declared.item.Source.{Source}
 use Rattle.lv_ast.specs.Trees.{spread, spread_all, fold_stmts, fold_one_stmt, fold_held, fold_arms}
 use Rattle.lv_ast.specs.Names.{Name, alone, spelled, below}
-use Rattle.lv_source.specs.Names.{Names, Declared, Sort, Other, known, with_name, is_signal_sort}
+use Rattle.lv_source.specs.Names.{Names, Declared, Sort, Other, known, with_name, is_signal_sort, is_clock_sort}
 use Rattle.lv_source.specs.Names.{Index as Index_sort}
 use Rattle.lv_source.specs.Declarations.{Thing, Direction, Wire, Reg, Parameter, Index, Instance, Label, Declaration, of_item, of_items, of_module, module_items, of_params, of_port, of_ports, port_names, declared_as, label_of, labels_or, label_step, labels}
 use Rattle.lv_source.specs.Scopes.{Scope, Override, with_parameters, overridden, override_of, signal, other, stands_for, scope_names, sort_of, is_among, is_parameter, module_scope, turn_scope, no_names, module_named, overrides, clock_by, links, instance_scope, instance_scopes, is_one_bit_input, children, children_by, counted_from, scopes_within}
-use Rattle.lv_source.specs.Parts.{numbered_from, stands_here, put_by_place, by_place, scope_signals, Design, scopes_of, scopes_from, signals_of, depth, top_scope}
+use Rattle.lv_source.specs.Parts.{numbered_from, is_declared_sort, stands_here, put_by_place, by_place, scope_signals, Design, scopes_of, scopes_from, signals_of, depth, top_scope}
 use Rattle.lv_ast.specs.PlainNames.{has_space, is_plain, plain_label, plain_step, plain_arm, plain_stmt, plain_or, plain_params, plain_ports, plain_item, plain_items, plain_module, HasPlainNames}
-use Rattle.lv_source.proofs.Tests.{and-left, and-right, and-both, same_name, name-itself, not-true}
+use Rattle.lv_source.proofs.Tests.{and-left, and-right, and-both, or-left, same_name, name-itself, not-true}
 use Rattle.lv_source.proofs.Refused.{In, in-right, in-split}
 use Rattle.lv_source.proofs.Paths.{IsPlain}
 use Rattle.lv_source.specs.ScopeRules.{duplicates}
@@ -45,8 +45,8 @@ pub record IsShaped (s : Scope) : Type 0 where
   pub top : Bool
   pub clocks : List Name
   pub names : s.names ≡ scope_names constants s.path top clocks s.declarations
-  -- a parameter is no signal
-  pub fixed : (m : Name) (d : Declaration) → In d s.declarations → d.name.name ≡ m → is_parameter d ≡ true → is_signal_sort (known (constants (alone m))).sort ≡ false
+  -- a parameter is no signal and no clock
+  pub fixed : (m : Name) (d : Declaration) → In d s.declarations → d.name.name ≡ m → is_parameter d ≡ true → is_declared_sort (known (constants (alone m))).sort ≡ false
   pub plain : (d : Declaration) → In d s.declarations → IsPlain d.name.name
   pub items : (x : Item) → In x s.items → plain_item x ≡ true
   pub front : List Declaration
@@ -82,14 +82,14 @@ in_if false d x h = absurd h
 abbrev is_param : Thing → Bool
 is_param t = elim t [ Direction o w s r ↦ false | Wire s r ↦ false | Reg s r b ↦ false | Parameter l s r v ↦ true | Index g ↦ false | Instance ↦ false | Label ↦ false ]
 
-abbrev NotSignal : Option Declared → Type 0
-NotSignal d = is_signal_sort (known d).sort ≡ false
+abbrev NotDeclared : Option Declared → Type 0
+NotDeclared d = is_declared_sort (known d).sort ≡ false
 
 clash : (b : Bool) → b ≡ true → b ≡ false → ⊥
 clash b h k = cc
 
-stands_thing : (names : Names) (path : Name) (p : Path) (n : Ident) (sort : Sort) (t : Thing) → (is_param t ≡ true → NotSignal (names p)) →
-    is_signal_sort (known (elim t as (λ _. Option Declared) [
+stands_thing : (names : Names) (path : Name) (p : Path) (n : Ident) (sort : Sort) (t : Thing) → (is_param t ≡ true → NotDeclared (names p)) →
+    is_declared_sort (known (elim t as (λ _. Option Declared) [
       | Direction o w signed range ↦ Some (signal names path n.name sort signed range None)
       | Wire signed range ↦ Some (signal names path n.name sort signed range None)
       | Reg signed range array ↦ Some (signal names path n.name sort signed range array)
@@ -115,8 +115,8 @@ stands_thing names path p n sort (Index g) f h = cc
 stands_thing names path p n sort Instance f h = cc
 stands_thing names path p n sort Label f h = cc
 
-stands_path : (names : Names) (path m : Name) (top clock : Bool) (xs : List Declaration) → ((d : Declaration) → In d xs → d.name.name ≡ m) → ((d : Declaration) → In d xs → is_parameter d ≡ true → NotSignal (names (alone m))) →
-    (d : Declaration) → In d xs → is_signal_sort (known (stands_for names path top clock (alone m) xs)).sort ≡ true → (known (stands_for names path top clock (alone m) xs)).path ≡ below path (spelled m)
+stands_path : (names : Names) (path m : Name) (top clock : Bool) (xs : List Declaration) → ((d : Declaration) → In d xs → d.name.name ≡ m) → ((d : Declaration) → In d xs → is_parameter d ≡ true → NotDeclared (names (alone m))) →
+    (d : Declaration) → In d xs → is_declared_sort (known (stands_for names path top clock (alone m) xs)).sort ≡ true → (known (stands_for names path top clock (alone m) xs)).path ≡ below path (spelled m)
 stands_path names path m top clock [] n f d i h = absurd i
 stands_path names path m top clock (x ∷ xs) n f d i h =
     stands_thing names path (alone m) x.name (sort_of top clock (x ∷ xs)) x.thing (f x (inl refl)) h ∙ ap (λ k. below path (spelled k)) (n x (inl refl))
@@ -133,8 +133,8 @@ filter_in n (x ∷ xs) d h = elim (in_cond (bytes_eq x.name.name n) x d (declare
   | inr k ↦ (let r : In d xs × (d.name.name ≡ n) = filter_in n xs d k in (inr r.0, r.1))
 ]
 
--- a signal that a declaration stands for has its name below the path of the scope
-pub own_path : (s : Scope) → IsShaped s → (d : Declaration) → In d s.declarations → is_signal_sort (known (s.names (alone d.name.name))).sort ≡ true →
+-- a signal or clock that a declaration stands for has its name below the path of the scope
+pub own_path : (s : Scope) → IsShaped s → (d : Declaration) → In d s.declarations → is_declared_sort (known (s.names (alone d.name.name))).sort ≡ true →
     (known (s.names (alone d.name.name))).path ≡ below s.path (spelled d.name.name)
 own_path s h d among sort =
     let m : Name = d.name.name in
@@ -142,7 +142,7 @@ own_path s h d among sort =
     let path : (known (stands_for h.constants s.path h.top (is_among h.clocks m) (alone m) (declared_as m s.declarations))).path ≡ below s.path (spelled m) =
     stands_path h.constants s.path m h.top (is_among h.clocks m) (declared_as m s.declarations) (λ e j. (filter_in m s.declarations e j).1)
     (λ e j p. h.fixed m e (filter_in m s.declarations e j).0 (filter_in m s.declarations e j).1 p) d (named_any m s.declarations d among refl)
-    (ap (λ (o : Option Declared). is_signal_sort (known o).sort) (sym names) ∙ sort) in
+    (ap (λ (o : Option Declared). is_declared_sort (known o).sort) (sym names) ∙ sort) in
     ap (λ (o : Option Declared). (known o).path) names ∙ path
 
 pub own_signals : (s : Scope) → IsShaped s → (x : Declared) → In x (scope_signals s) → (m : Name) × IsPlain m × (x ≡ known (s.names (alone m))) × (x.path ≡ below s.path (spelled m))
@@ -156,7 +156,7 @@ own_signals s h x i =
     let here : (_ ≡ true) × ((d.name.place, known (s.names (alone m))) ≡ px.0) = in_if _ (d.name.place, known (s.names (alone m))) px.0 at.2 in
     let is : (_ ≡ true) × (known (s.names (alone m)) ≡ x) = (here.0, ap (λ (p : ℕ × Declared). p.1) here.1 ∙ px.2) in
     let sort : is_signal_sort (known (s.names (alone m))).sort ≡ true = and-left (is_signal_sort (known (s.names (alone m))).sort) _ is.0 in
-    (m, h.plain d among, sym is.1, ap (λ (z : Declared). z.path) (sym is.1) ∙ own_path s h d among sort)
+    (m, h.plain d among, sym is.1, ap (λ (z : Declared). z.path) (sym is.1) ∙ own_path s h d among (or-left (is_signal_sort (known (s.names (alone m))).sort) (is_clock_sort (known (s.names (alone m))).sort) sort))
 
 -- a scope with a shape and no Duplicate is told by its names
 pub told : (source : Source) (s : Scope) → IsShaped s → duplicates s ≡ [] → IsTold source s
@@ -178,7 +178,13 @@ over_fixed here n signed (Some r) value None = refl
 over_fixed here n signed None value (Some o) = refl
 over_fixed here n signed (Some r) value (Some o) = refl
 
-with_fixed : (b : Bool) (x : Declared) (y : Option Declared) → is_signal_sort x.sort ≡ false → NotSignal y → NotSignal (if b then Some x else y)
+over_undeclared : (here : Names) (n : Ident) (signed : Bool) (range : Option Range) (value : Expr) (o : Option Override) → is_declared_sort (overridden here n signed range value o).sort ≡ false
+over_undeclared here n signed None value None = refl
+over_undeclared here n signed (Some r) value None = refl
+over_undeclared here n signed None value (Some o) = refl
+over_undeclared here n signed (Some r) value (Some o) = refl
+
+with_fixed : (b : Bool) (x : Declared) (y : Option Declared) → is_declared_sort x.sort ≡ false → NotDeclared y → NotDeclared (if b then Some x else y)
 with_fixed true x y h k = h
 with_fixed false x y h k = k
 
@@ -193,8 +199,8 @@ next_names os names n t = elim t as (λ _. Names) [
   | Label ↦ names
 ]
 
-next_fixed : (os : List Override) (names : Names) (n : Ident) (t : Thing) (m : Name) → NotSignal (names (alone m)) → NotSignal (next_names os names n t (alone m))
-next_fixed os names n (Parameter local signed range value) m h = with_fixed (bytes_eq m n.name) _ (names (alone m)) (over_fixed names n signed range value (override_of local os n.name)) h
+next_fixed : (os : List Override) (names : Names) (n : Ident) (t : Thing) (m : Name) → NotDeclared (names (alone m)) → NotDeclared (next_names os names n t (alone m))
+next_fixed os names n (Parameter local signed range value) m h = with_fixed (bytes_eq m n.name) _ (names (alone m)) (over_undeclared names n signed range value (override_of local os n.name)) h
 next_fixed os names n (Direction o w s r) m h = h
 next_fixed os names n (Wire s r) m h = h
 next_fixed os names n (Reg s r b) m h = h
@@ -202,13 +208,13 @@ next_fixed os names n (Index g) m h = h
 next_fixed os names n Instance m h = h
 next_fixed os names n Label m h = h
 
-set_fixed : (b : Bool) (x : Declared) (y : Option Declared) → b ≡ true → is_signal_sort x.sort ≡ false → NotSignal (if b then Some x else y)
+set_fixed : (b : Bool) (x : Declared) (y : Option Declared) → b ≡ true → is_declared_sort x.sort ≡ false → NotDeclared (if b then Some x else y)
 set_fixed true x y e h = h
 set_fixed false x y e h = cc
 
-next_set : (os : List Override) (names : Names) (n : Ident) (t : Thing) (m : Name) → n.name ≡ m → is_param t ≡ true → NotSignal (next_names os names n t (alone m))
+next_set : (os : List Override) (names : Names) (n : Ident) (t : Thing) (m : Name) → n.name ≡ m → is_param t ≡ true → NotDeclared (next_names os names n t (alone m))
 next_set os names n (Parameter local signed range value) m e h =
-    set_fixed (bytes_eq m n.name) _ (names (alone m)) (ap (bytes_eq m) e ∙ name-itself m) (over_fixed names n signed range value (override_of local os n.name))
+    set_fixed (bytes_eq m n.name) _ (names (alone m)) (ap (bytes_eq m) e ∙ name-itself m) (over_undeclared names n signed range value (override_of local os n.name))
 next_set os names n (Direction o w s r) m e h = cc
 next_set os names n (Wire s r) m e h = cc
 next_set os names n (Reg s r b) m e h = cc
@@ -216,11 +222,11 @@ next_set os names n (Index g) m e h = cc
 next_set os names n Instance m e h = cc
 next_set os names n Label m e h = cc
 
-kept_fixed : (os : List Override) (names : Names) (ds : List Declaration) (m : Name) → NotSignal (names (alone m)) → NotSignal (with_parameters os names ds (alone m))
+kept_fixed : (os : List Override) (names : Names) (ds : List Declaration) (m : Name) → NotDeclared (names (alone m)) → NotDeclared (with_parameters os names ds (alone m))
 kept_fixed os names [] m h = h
 kept_fixed os names (d ∷ ds) m h = kept_fixed os (next_names os names d.name d.thing) ds m (next_fixed os names d.name d.thing m h)
 
-params_fixed : (os : List Override) (names : Names) (ds : List Declaration) (m : Name) (d : Declaration) → In d ds → d.name.name ≡ m → is_parameter d ≡ true → NotSignal (with_parameters os names ds (alone m))
+params_fixed : (os : List Override) (names : Names) (ds : List Declaration) (m : Name) (d : Declaration) → In d ds → d.name.name ≡ m → is_parameter d ≡ true → NotDeclared (with_parameters os names ds (alone m))
 params_fixed os names [] m d i e h = absurd i
 params_fixed os names (x ∷ xs) m d (inl k) e h = kept_fixed os (next_names os names x.name x.thing) xs m
     (next_set os names x.name x.thing m (ap (λ (z : Declaration). z.name.name) k ∙ e) (ap is_parameter k ∙ h))

@@ -116,7 +116,7 @@ below_two path (c ∷ cs) n h = below_below path c cs n
 dotted : (m j w : List ℕ) → ((m ++ j) ++ 46 ∷ []) ++ w ≡ m ++ (j ++ 46 ∷ w)
 dotted m j w = append_assoc (m ++ j) (46 ∷ []) w ∙ append_assoc m j (46 ∷ w)
 
-kid_text : (path child m j w name : Name) → child ≡ below path (spelled m ++ j) → name ≡ below child w → name ≡ below path (spelled m ++ (j ++ 46 ∷ w))
+pub kid_text : (path child m j w name : Name) → child ≡ below path (spelled m ++ j) → name ≡ below child w → name ≡ below path (spelled m ++ (j ++ 46 ∷ w))
 kid_text path child m j w name e h =
     h ∙ (ap (λ c. below c w) e ∙ (below_two path (spelled m ++ j) w (spelled_some (is_simple m) m j refl) ∙ ap (below path) (dotted (spelled m) j w)))
 

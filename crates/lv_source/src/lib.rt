@@ -3,10 +3,10 @@
 #![tactic(auto)]
 
 ghost use Rattle.std.specs.Prelude.{◌≡◌, ◌↔◌, ◌<◌, ◌^◌, ℕ, List, [], ◌∷◌, ◌++◌, Some, Contains, filter, bytes_eq};
-ghost use Rattle.std.specs.List.{AllZip, IsDistinct};
-ghost use Rattle.lv_ast.specs.Names.{Name};
-ghost use Rattle.lv_source.specs.Names.{Names, Declared, Valuation};
-ghost use Rattle.lv_source.specs.Parts.{Design, At, top_scope, scopes_of, signals_of, declared_of, is_signal, registers_of, inputs_of, width_at};
+ghost use Rattle.std.specs.List.{AllZip, IsDistinct, list_any};
+ghost use Rattle.lv_ast.specs.Names.{Name, alone};
+ghost use Rattle.lv_source.specs.Names.{Names, Declared, Valuation, known, is_clock_sort};
+ghost use Rattle.lv_source.specs.Parts.{Design, At, top_scope, scopes_of, signals_of, declared_of, scope_declared, is_signal, registers_of, inputs_of, width_at};
 ghost use Rattle.lv_source.specs.Settled.{IsSettled, Follows, SameOn, SameInputs, IsRun, StartAlike, HasApartSignals};
 ghost use Rattle.lv_source.specs.Legal.{IsLegal, Kind, Port, ClockUse, Refusal, HoldsAt, refusals, places_of, top_clock};
 ghost use Rattle.lv_source.specs.Limits.{IsWithinLimits};
@@ -126,4 +126,15 @@ pub fn clock_uses_are_viewed()
 /// The list of constants before a place says what the names there say: a path is a constant that is declared before, with that value.
 pub fn entries_are_constants()
     ensures { (s : Scope) (es : List Entry) (k : ℕ) (p : Path) → Around s es → entry_names (entry_constants es s k) p ≡ early_constants (here_at s k) p }
+{}
+
+/// Each scope of the design has a list of the constants around it.
+pub fn scopes_have_constants()
+    ensures { (d : Design) (s : Scope) → Contains (scopes_of d) s → (es : List Entry) × Around s es }
+{}
+
+/// The top has its clock exactly where a clock is among its declared names.
+pub fn top_clock_is_declared()
+    ensures { (d : Design) (m : Module) →
+        is_clock_sort (known ((top_scope d m).names (alone d.clock))).sort ≡ list_any (λ x. is_clock_sort x.sort) (scope_declared (top_scope d m)) }
 {}

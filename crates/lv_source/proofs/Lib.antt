@@ -30,6 +30,7 @@ pub mod Induction
 pub mod Kids
 pub mod LegalA
 pub mod Listed
+pub mod ListedClock
 pub mod Mends
 pub mod Nesting
 pub mod Numbers

@@ -1,5 +1,5 @@
 -- What the rules on parts, settled valuations and the next state depend on: the signals, and a view of each part, without trees and names.
-use Rattle.std.specs.Prelude.{◌≡◌, ◌↔◌, ℕ, ◌<◌, ◌^◌, Bool, true, false, not, ◌&&◌, ◌||◌, if◌then◌else◌, ◌==◌, List, [], ◌∷◌, ◌++◌, map, Option, Some, None, All, flat_map, filter, find, slice_get}
+use Rattle.std.specs.Prelude.{◌≡◌, ◌↔◌, ℕ, ◌<◌, ◌^◌, Bool, true, false, not, ◌&&◌, ◌||◌, if◌then◌else◌, ◌==◌, List, [], ◌∷◌, ◌++◌, map, Option, Some, None, All, flat_map, filter, find, slice_get, bytes_eq}
 use Rattle.std.specs.List.{list_any, list_all}
 use Rattle.lv_ast.specs.Names.{Name, alone}
 use Rattle.lv_source.specs.Names.{Sort, Declared, Valuation, known, is_variable_sort, is_input_sort, is_clock_sort, is_signal_sort}
@@ -139,6 +139,14 @@ clock_aims v = map (λ a. at_view v a.place) (filter (λ a. is_clock_sort a.sort
 
 abbrev pub clock_views : List View → List At
 clock_views vs = at_views vs (λ k v. edge_places v ++ clock_aims v)
+
+-- the clock of this path is among what is declared
+abbrev pub lists_clock : Name → List Declared → Bool
+lists_clock path ss = list_any (λ x. is_clock_sort x.sort && bytes_eq x.path path) ss
+
+-- of the top, which has the name at this path
+abbrev pub unlisted_clock : Name → List Declared → List At
+unlisted_clock path ss = told_if (not (lists_clock path ss)) (record { path = []; place = 0 } ∷ [])
 
 -- in expressions and targets
 abbrev pub named_clocks : List View → List At

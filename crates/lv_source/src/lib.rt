@@ -2,9 +2,9 @@
 //! refusals, limits and observers, after IEEE 1364-2005. Each function below does nothing: its contract is a law of these definitions.
 #![tactic(auto)]
 
-ghost use Rattle.std.specs.Prelude.{◌≡◌, ◌↔◌, ◌<◌, ◌^◌, ℕ, List, [], ◌∷◌, ◌++◌, Some, Contains, filter, bytes_eq};
+ghost use Rattle.std.specs.Prelude.{◌≡◌, false, ◌↔◌, ◌<◌, ◌^◌, ℕ, List, [], ◌∷◌, ◌++◌, Some, Contains, filter, bytes_eq};
 ghost use Rattle.std.specs.List.{AllZip, IsDistinct, list_any};
-ghost use Rattle.lv_ast.specs.Names.{Name, alone};
+ghost use Rattle.lv_ast.specs.Names.{Name, alone, spelled};
 ghost use Rattle.lv_source.specs.Names.{Names, Declared, Valuation, known, is_clock_sort};
 ghost use Rattle.lv_source.specs.Parts.{Design, At, top_scope, scopes_of, signals_of, declared_of, scope_declared, is_signal, registers_of, inputs_of, width_at};
 ghost use Rattle.lv_source.specs.Settled.{IsSettled, Follows, SameOn, SameInputs, IsRun, StartAlike, HasApartSignals};
@@ -13,13 +13,13 @@ ghost use Rattle.lv_source.specs.Limits.{IsWithinLimits};
 ghost use Rattle.lv_source.specs.Flow.{flow, is_latch, is_read_first};
 ghost use Rattle.lv_source.specs.Summary.{summary, leaves_latch, exposes_own};
 ghost use Rattle.lv_source.specs.Places.{Bit};
-ghost use Rattle.lv_source.specs.Views.{View, AreViewed, views_of, named_clocks, clock_views};
+ghost use Rattle.lv_source.specs.Views.{View, AreViewed, views_of, named_clocks, clock_views, unlisted_clock};
 ghost use Rattle.lv_source.specs.Drivers.{Drivers, drivers, AreDriven};
 ghost use Rattle.lv_source.specs.Scopes.{Scope, module_named, children, here_at};
 ghost use Rattle.lv_source.specs.Constants.{Entry, Around, entry_names, entry_constants, early_constants};
 ghost use Rattle.lv_ast.specs.declared.expr.Path.{Path};
 ghost use Rattle.lv_source.specs.Preorder.{AreScopes, AreSome, AreSomeItems};
-ghost use Rattle.lv_ast.specs.PlainNames.{HasPlainNames};
+ghost use Rattle.lv_ast.specs.PlainNames.{HasPlainNames, has_space};
 ghost use Rattle.lv_source.specs.Faults.{faults, scope_faults};
 ghost use Rattle.lv_ast.specs.declared.item.Item.{Item};
 ghost use Rattle.lv_ast.specs.declared.item.Module.{Module};
@@ -137,4 +137,16 @@ pub fn scopes_have_constants()
 pub fn top_clock_is_declared()
     ensures { (d : Design) (m : Module) →
         is_clock_sort (known ((top_scope d m).names (alone d.clock))).sort ≡ list_any (λ x. is_clock_sort x.sort) (scope_declared (top_scope d m)) }
+{}
+
+/// The top has its clock exactly where its path is that of a clock in the whole list, where no name has a space inside.
+pub fn top_clock_is_listed()
+    ensures { (d : Design) (m : Module) → module_named d.source d.top ≡ Some m → HasPlainNames d.source → has_space d.clock ≡ false →
+        top_clock d ≡ unlisted_clock (spelled d.clock) (declared_of d) }
+{}
+
+/// So where no port is at fault, uses of clocks are told by that list and the views of parts alone.
+pub fn clock_uses_are_listed()
+    ensures { (d : Design) (m : Module) → module_named d.source d.top ≡ Some m → HasPlainNames d.source → has_space d.clock ≡ false → places_of d Port ≡ [] →
+        places_of d ClockUse ≡ unlisted_clock (spelled d.clock) (declared_of d) ++ named_clocks (views_of d) ++ clock_views (views_of d) }
 {}

@@ -1,11 +1,14 @@
-//! Expressions: the trees are written by hand, each node in parentheses.
+//! Expressions: the trees are written by hand, as their canonical texts, in which each node has its parentheses.
+use crate::rows::refused;
 use crate::shapes::repeated;
-use lv_ast::{Expr, Literal, Path, Select};
-use lv_bits::Op;
-use lv_exprs::{SyntaxError, read_expr};
+use lv_ast::Expr;
+use lv_bits::{Op, Text};
+use lv_exprs::read_expr;
 use lv_held::Held;
 use lv_lexer::lex;
+use lv_print::print_expr;
 use std::alloc::Global;
+use std::str;
 use std::test::Fail;
 
 /// How an operator is spelled.
@@ -38,169 +41,33 @@ pub fn op_text(op: Op) -> &'static str {
     }
 }
 
-fn put(out: &mut Vec<u8>, text: &str) -> Result<(), Fail> {
-    out.extend_from_slice(text.as_bytes())?;
-    Ok(())
-}
-
-/// A size, `'`, a value and, behind `?`, free bits; or a plain value.
-fn show_literal(alloc: Global, out: &mut Vec<u8>, l: &Literal) -> Result<(), Fail> {
-    if let Some(size) = l.size {
-        put(out, format!(in alloc; "{}", size)?.as_str())?;
-    }
-    if !l.plain {
-        put(out, if l.signed { "'s" } else { "'" })?;
-    }
-    put(out, format!(in alloc; "{}", l.value)?.as_str())?;
-    if l.wild != 0 {
-        put(out, format!(in alloc; "?{}", l.wild)?.as_str())?;
-    }
-    Ok(())
-}
-
-fn show_path(alloc: Global, out: &mut Vec<u8>, path: &Path) -> Result<(), Fail> {
-    for step in path.steps.as_slice() {
-        out.extend_from_slice(step.name.bytes())?;
-        if let Some(index) = step.index {
-            put(out, format!(in alloc; "[{}]", index)?.as_str())?;
-        }
-        put(out, ".")?;
-    }
-    out.extend_from_slice(path.name.bytes())?;
-    Ok(())
-}
-
-#[cycle(shows)]
-fn show_select(alloc: Global, out: &mut Vec<u8>, select: &Select) -> Result<(), Fail> {
-    put(out, "[")?;
-    match select {
-        Select::Bit(a) => show(alloc, out, a.get())?,
-        Select::Part(a, b) => {
-            show(alloc, out, a.get())?;
-            put(out, ":")?;
-            show(alloc, out, b.get())?;
-        }
-        Select::Up(a, b) => {
-            show(alloc, out, a.get())?;
-            put(out, "+:")?;
-            show(alloc, out, b.get())?;
-        }
-        Select::Down(a, b) => {
-            show(alloc, out, a.get())?;
-            put(out, "-:")?;
-            show(alloc, out, b.get())?;
-        }
-    }
-    put(out, "]")
-}
-
-#[cycle(shows)]
-fn show_list(alloc: Global, out: &mut Vec<u8>, list: &[Expr]) -> Result<(), Fail> {
-    put(out, "{")?;
-    for e in list {
-        show(alloc, out, e)?;
-        put(out, ";")?;
-    }
-    put(out, "}")
-}
-
-#[cycle(shows)]
-fn show_name(
-    alloc: Global,
-    out: &mut Vec<u8>,
-    path: &Path,
-    selects: &[Select],
-) -> Result<(), Fail> {
-    show_path(alloc, out, path)?;
-    for select in selects {
-        show_select(alloc, out, select)?;
-    }
-    Ok(())
-}
-
-/// A bracket round a node.
-fn bracket(e: &Expr, text: &'static str) -> &'static str {
-    match e {
-        Expr::Lit(_) => "",
-        Expr::Name(_, _) => "",
-        Expr::Cat(_) => "",
-        _ => text,
+fn word(text: &Text) -> Result<&str, Fail> {
+    match str::from_utf8(text.bytes()) {
+        Ok(word) => Ok(word),
+        Err(_) => Err("no text")?,
     }
 }
 
-#[cycle(shows)]
-fn show(alloc: Global, out: &mut Vec<u8>, e: &Expr) -> Result<(), Fail> {
-    put(out, bracket(e, "("))?;
-    match e {
-        Expr::Lit(l) => show_literal(alloc, out, l)?,
-        Expr::Name(path, selects) => show_name(alloc, out, path, selects.as_slice())?,
-        Expr::Cat(list) => show_list(alloc, out, list.as_slice())?,
-        Expr::Un(op, a) => {
-            put(out, op_text(*op))?;
-            show(alloc, out, a.get())?;
-        }
-        Expr::Bin(op, a, b) => {
-            show(alloc, out, a.get())?;
-            put(out, op_text(*op))?;
-            show(alloc, out, b.get())?;
-        }
-        Expr::Div(a, b) => {
-            show(alloc, out, a.get())?;
-            put(out, "/")?;
-            show(alloc, out, b.get())?;
-        }
-        Expr::Rem(a, b) => {
-            show(alloc, out, a.get())?;
-            put(out, "%")?;
-            show(alloc, out, b.get())?;
-        }
-        Expr::Cond(c, a, b) => {
-            show(alloc, out, c.get())?;
-            put(out, "?")?;
-            show(alloc, out, a.get())?;
-            put(out, ":")?;
-            show(alloc, out, b.get())?;
-        }
-        Expr::Rep(n, list) => {
-            show(alloc, out, n.get())?;
-            show_list(alloc, out, list.as_slice())?;
-        }
-        Expr::Cast(signed, a) => {
-            put(out, if *signed { "s" } else { "u" })?;
-            show(alloc, out, a.get())?;
-        }
+/// The number of tokens and, where it is wanted, the tree.
+fn accepted(alloc: Global, tree: Held<Expr>, end: usize, shown: bool) -> Result<String, Fail> {
+    if !shown {
+        return Ok(format!(in alloc; "{end}")?);
     }
-    put(out, bracket(e, ")"))
+    let Ok(text) = print_expr(alloc, tree.get()) else {
+        return Err(Fail::from("no memory"));
+    };
+    Ok(format!(in alloc; "{end} {}", word(&text)?)?)
 }
 
-/// The number of tokens and the tree, or the refusal. Where the tree is not wanted, the number alone.
-fn answer(alloc: Global, text: &[u8], paths: bool, shown: bool) -> Result<Vec<u8>, Fail> {
-    let mut out = Vec::new(alloc);
+/// What reading a text gives, or the refusal.
+fn answer(alloc: Global, text: &[u8], paths: bool, shown: bool) -> Result<String, Fail> {
     let Ok(tokens) = lex(alloc, text) else {
         return Err(Fail::from("no tokens"));
     };
     match read_expr(alloc, &tokens, 0, paths) {
-        Ok((e, end)) => accepted(alloc, &mut out, Held::new(e), end, shown)?,
-        Err(SyntaxError::Syntax(k)) => put(&mut out, format!(in alloc; "syntax {k}")?.as_str())?,
-        Err(SyntaxError::Depth(k)) => put(&mut out, format!(in alloc; "depth {k}")?.as_str())?,
-        Err(SyntaxError::NoMemory) => put(&mut out, "no memory")?,
+        Ok((tree, end)) => accepted(alloc, Held::new(tree), end, shown),
+        Err(error) => refused(alloc, error),
     }
-    Ok(out)
-}
-
-fn accepted(
-    alloc: Global,
-    out: &mut Vec<u8>,
-    tree: Held<Expr>,
-    end: usize,
-    shown: bool,
-) -> Result<(), Fail> {
-    put(out, format!(in alloc; "{end}")?.as_str())?;
-    if shown {
-        put(out, " ")?;
-        show(alloc, out, tree.get())?;
-    }
-    Ok(())
 }
 
 /// The answer stands before `@`.
@@ -212,97 +79,97 @@ syntax 2@a +
 syntax 2@( a
 1 a@a )
 1 a@a b
-5 (a||(b&&c))@a || b && c
-5 ((a&&b)||c)@a && b || c
-5 (a&&(b|c))@a && b | c
-5 ((a|b)&&c)@a | b && c
-5 (a|(b^c))@a | b ^ c
-5 ((a^b)|c)@a ^ b | c
-5 (a^(b&c))@a ^ b & c
-5 ((a&b)~^c)@a & b ^~ c
-5 (a&(b==c))@a & b == c
-5 ((a!=b)&c)@a != b & c
-5 (a==(b<c))@a == b < c
-5 ((a<=b)!=c)@a <= b != c
-5 (a>(b<<c))@a > b << c
-5 ((a>>b)>=c)@a >> b >= c
-5 (a<<(b+c))@a <<< b + c
-5 ((a-b)>>>c)@a - b >>> c
-5 (a+(b*c))@a + b * c
-5 ((a/b)-c)@a / b - c
-5 ((a||b)||c)@a || b || c
-5 ((a&&b)&&c)@a && b && c
-5 ((a|b)|c)@a | b | c
-5 ((a^b)~^c)@a ^ b ~^ c
-5 ((a&b)&c)@a & b & c
-5 ((a==b)!=c)@a == b != c
-5 ((a<b)>=c)@a < b >= c
-5 ((a<<b)>>c)@a << b >> c
-5 ((a-b)+c)@a - b + c
-7 (((a*b)/c)%d)@a * b / c % d
-9 (a?b:(c?d:e))@a ? b : c ? d : e
-9 (a?(b?c:d):e)@a ? b ? c : d : e
-7 ((a||b)?c:d)@a || b ? c : d
+5 ( a || ( b && c ) )@a || b && c
+5 ( ( a && b ) || c )@a && b || c
+5 ( a && ( b | c ) )@a && b | c
+5 ( ( a | b ) && c )@a | b && c
+5 ( a | ( b ^ c ) )@a | b ^ c
+5 ( ( a ^ b ) | c )@a ^ b | c
+5 ( a ^ ( b & c ) )@a ^ b & c
+5 ( ( a & b ) ~^ c )@a & b ^~ c
+5 ( a & ( b == c ) )@a & b == c
+5 ( ( a != b ) & c )@a != b & c
+5 ( a == ( b < c ) )@a == b < c
+5 ( ( a <= b ) != c )@a <= b != c
+5 ( a > ( b << c ) )@a > b << c
+5 ( ( a >> b ) >= c )@a >> b >= c
+5 ( a << ( b + c ) )@a <<< b + c
+5 ( ( a - b ) >>> c )@a - b >>> c
+5 ( a + ( b * c ) )@a + b * c
+5 ( ( a / b ) - c )@a / b - c
+5 ( ( a || b ) || c )@a || b || c
+5 ( ( a && b ) && c )@a && b && c
+5 ( ( a | b ) | c )@a | b | c
+5 ( ( a ^ b ) ~^ c )@a ^ b ~^ c
+5 ( ( a & b ) & c )@a & b & c
+5 ( ( a == b ) != c )@a == b != c
+5 ( ( a < b ) >= c )@a < b >= c
+5 ( ( a << b ) >> c )@a << b >> c
+5 ( ( a - b ) + c )@a - b + c
+7 ( ( ( a * b ) / c ) % d )@a * b / c % d
+9 ( a ? b : ( c ? d : e ) )@a ? b : c ? d : e
+9 ( a ? ( b ? c : d ) : e )@a ? b ? c : d : e
+7 ( ( a || b ) ? c : d )@a || b ? c : d
 syntax 3@a ? b ;
-5 ((-a)+(~b))@- a + ~ b
-3 (!(&a))@! & a
-2 (!(&a))@~& a
-2 (!(|a))@~| a
-2 (!(^a))@~^ a
-2 (!(^a))@^~ a
+5 ( ( - a ) + ( ~ b ) )@- a + ~ b
+3 ( ! ( & a ) )@! & a
+2 ( ! ( & a ) )@~& a
+2 ( ! ( | a ) )@~| a
+2 ( ! ( ^ a ) )@~^ a
+2 ( ! ( ^ a ) )@^~ a
 1 a@a ~& b
-5 (a+b)@a + + + b
+5 ( a + b )@a + + + b
 6 a@+ ( ( a ) )
 syntax 1@~ ;
-5 {a;b;}@{ a , b }
+5 { a , b }@{ a , b }
 syntax 5@{ a , b , }
 syntax 1@{ }
-6 (2{a;})@{ 2 { a } }
-6 (a{b;})@{ a { b } }
-8 (2{a;b;})@{ 2 { a , b } }
+6 { 2 { a } }@{ 2 { a } }
+6 { a { b } }@{ a { b } }
+8 { 2 { a , b } }@{ 2 { a , b } }
 syntax 5@{ 2 { a } ;
 syntax 4@{ a , 2 { b } }
-11 {{a;};{b;c;};}@{ { a } , { b , c } }
-4 (sa)@$signed ( a )
-6 (u(a+b))@$unsigned ( a + b )
+11 { { a } , { b , c } }@{ { a } , { b , c } }
+4 $signed ( a )@$signed ( a )
+6 $unsigned ( ( a + b ) )@$unsigned ( a + b )
 syntax 1@$signed a
 syntax 0@$other ( a )
-4 a[1]@a [ 1 ]
-6 a[3:0]@a [ 3 : 0 ]
-6 a[i+:4]@a [ i +: 4 ]
-6 a[i-:4]@a [ i -: 4 ]
-7 m[1][2]@m [ 1 ] [ 2 ]
-12 m[1][2][3:0]@m [ 1 ] [ 2 ] [ 3 : 0 ]
+4 a [ 1 ]@a [ 1 ]
+6 a [ 3 : 0 ]@a [ 3 : 0 ]
+6 a [ i +: 4 ]@a [ i +: 4 ]
+6 a [ i -: 4 ]@a [ i -: 4 ]
+7 m [ 1 ] [ 2 ]@m [ 1 ] [ 2 ]
+12 m [ 1 ] [ 2 ] [ 3 : 0 ]@m [ 1 ] [ 2 ] [ 3 : 0 ]
 3 a@( a ) [ 1 ]
-3 {a;}@{ a } [ 1 ]
-8 a[(b?c:d)]@a [ b ? c : d ]
+3 { a }@{ a } [ 1 ]
+8 a [ ( b ? c : d ) ]@a [ b ? c : d ]
 syntax 5@a [ 1 +: 2 : 3 ]
-4 a+b[1]@\a+b [ 1 ]
+4 \a+b [ 1 ]@\a+b [ 1 ]
 1 7@7
-2 4'1@4 'b1
-1 's123@'sd12_3
-2 4'15@4 'hfF
-2 4'2?1@4 'b1? ;
-2 8'0?255@8 'bz
-2 2'1@2 'b?01
+2 4'h1@4 'b1
+1 'sh7b@'sd12_3
+2 4'hf@4 'hfF
+2 4'b1?@4 'b1? ;
+2 8'b?@8 'bz
+2 2'h1@2 'b?01
 syntax 2@( 4 'b1? )
 2 4@+ 4 'b1?
 1 u0@u0 . v [ 3 ] . w [ 1 ]
-4 v[3]@v [ 3 ] . w
-6 (v[3]+w)@v [ 3 ] + w
-4 v[a]@v [ a ] . w
-6 v[3]@v [ ( 3 ) ] . w
-7 v[1][3]@v [ 1 ] [ 3 ] . w
+4 v [ 3 ]@v [ 3 ] . w
+6 ( v [ 3 ] + w )@v [ 3 ] + w
+4 v [ a ]@v [ a ] . w
+6 v [ 3 ]@v [ ( 3 ) ] . w
+7 v [ 1 ] [ 3 ]@v [ 1 ] [ 3 ] . w
 3 v@( v ) . w
 1 v@v . 3"#;
 
 /// The same, where names may be paths.
-const PATHS: &str = r#"11 u0.v[3].w[1]@u0 . v [ 3 ] . w [ 1 ]
-6 v[3].w@v [ 3 ] . w
-6 (v[3]+w)@v [ 3 ] + w
-4 v[a]@v [ a ] . w
-6 v[3]@v [ ( 3 ) ] . w
-7 v[1][3]@v [ 1 ] [ 3 ] . w
+const PATHS: &str = r#"11 u0 . v [ 3 ] . w [ 1 ]@u0 . v [ 3 ] . w [ 1 ]
+6 v [ 3 ] . w@v [ 3 ] . w
+6 ( v [ 3 ] + w )@v [ 3 ] + w
+4 v [ a ]@v [ a ] . w
+6 v [ 3 ]@v [ ( 3 ) ] . w
+7 v [ 1 ] [ 3 ]@v [ 1 ] [ 3 ] . w
 3 v@( v ) . w
 syntax 2@v . 3"#;
 
@@ -312,7 +179,7 @@ fn reads_expressions(rt: HostRuntime) -> Result<(), Fail> {
         for row in rows.lines() {
             let (wanted, text) = row.split_once('@').ok_or("no answer")?;
             let given = answer(rt.alloc(), text.as_bytes(), paths, true)?;
-            assert!(rt; given.as_slice() == wanted.as_bytes(), "{row}");
+            assert!(rt; given.as_str() == wanted, "{row}");
         }
     }
     Ok(())
@@ -361,7 +228,7 @@ fn limits_heights(rt: HostRuntime) -> Result<(), Fail> {
             let (times, parts) = rest.split_once('@').ok_or("no count")?;
             let text = deep(alloc, times.parse::<u32>()?, parts)?;
             let given = answer(alloc, text.as_bytes(), paths, false)?;
-            assert!(rt; given.as_slice() == wanted.as_bytes(), "{row}");
+            assert!(rt; given.as_str() == wanted, "{row}");
         }
     }
     Ok(())

@@ -28,23 +28,20 @@ pub fn read(
     Ok(read_source(alloc, &tokens))
 }
 
-/// A refusal, or what stands for an answer.
-pub fn told<T: Drop>(
-    alloc: Global,
-    answer: Result<T, SyntaxError>,
-    accepted: &str,
-) -> Result<String, Fail> {
-    match answer {
-        Ok(_) => Ok(format!(in alloc; "{accepted}")?),
-        Err(SyntaxError::Syntax(at)) => Ok(format!(in alloc; "syntax {at}")?),
-        Err(SyntaxError::Depth(at)) => Ok(format!(in alloc; "depth {at}")?),
-        Err(SyntaxError::NoMemory) => Ok(format!(in alloc; "no memory")?),
+pub fn refused(alloc: Global, error: SyntaxError) -> Result<String, Fail> {
+    match error {
+        SyntaxError::Syntax(at) => Ok(format!(in alloc; "syntax {at}")?),
+        SyntaxError::Depth(at) => Ok(format!(in alloc; "depth {at}")?),
+        SyntaxError::NoMemory => Ok(format!(in alloc; "no memory")?),
     }
 }
 
 /// What reading a text gives, without the tree.
 pub fn reading(rt: &impl Abort, alloc: Global, text: &str) -> Result<String, Fail> {
-    told(alloc, read(rt, alloc, text)?, "accepted")
+    match read(rt, alloc, text)? {
+        Ok(_) => Ok(format!(in alloc; "accepted")?),
+        Err(error) => refused(alloc, error),
+    }
 }
 
 /// Each row stands between two texts.

@@ -470,12 +470,19 @@ fn words_are_taken(rt: HostRuntime) -> Result<(), Fail> {
     Ok(())
 }
 
+// Whether this is the name, or none is named where it is empty.
+fn is_named(named: Option<Text>, name: &[u8]) -> bool {
+    match named {
+        Some(text) => text.bytes() == name,
+        None => name.is_empty(),
+    }
+}
+
 // What the words ask for, as clap reads them.
 fn asks(alloc: Global, list: &[&[u8]], file: &[u8], out: &[u8]) -> Result<bool, NoMemory> {
     let words = words_of(alloc, list)?;
     match asked(alloc, &words)? {
-        Some(Asked::Verify(name, Some(text))) => Ok(name.bytes() == file && text.bytes() == out),
-        Some(Asked::Verify(name, None)) => Ok(name.bytes() == file && out.is_empty()),
+        Some(Asked::Verify(name, named)) => Ok(name.bytes() == file && is_named(named, out)),
         _ => Ok(false),
     }
 }

@@ -1,7 +1,8 @@
 -- Which words are handed to the run, for what std answers when it is asked for them.
-use Rattle.std.specs.Prelude.{◌≡◌, ℕ, List, map, drop, string_bytes, Vec, String, Global, Result, Ok, Err, MatchResult}
-use Rattle.std_io.specs.declared.io.kind.ErrorKind.{ErrorKind}
-use Rattle.std_io.specs.declared.io.kind.ErrorKind.TheVariants as kind
+use Rattle.std.specs.Prelude.{◌≡◌, ℕ, List, map, drop, string_bytes, Vec, String, Result, Ok, Err, MatchResult}
+use Rattle.std.specs.declared.alloc.Global.{Global}
+use Rattle.std.specs.declared.io.ErrorKind.{ErrorKind}
+use Rattle.std.specs.declared.io.ErrorKind.TheVariants as kind
 use Rattle.lv_words.specs.declared.words.Words.{Words}
 use Rattle.lv_words.specs.declared.modes.Asked.{Asked}
 use Rattle.lv_words.specs.Lines.{IsAsked}

@@ -54,7 +54,8 @@ module _ (w a b : ℕ) (whole : 1 ≤ b) (fits : a < 2 ^ w) (small : b < 2 ^ w) 
   low-high h k = rw (h, k, z, of-high w b small) (sym (wrapped-neg w (a / (2 ^ w - b)) (div-lt a (2 ^ w - b) (2 ^ w) fits)))
 
   high-high : nat_lt a (2 ^ (w - 1)) ≡ false → nat_lt b (2 ^ (w - 1)) ≡ false → Same true w a b
-  high-high h k = rw (h, k, z, of-high w a fits, of-high w b small) (sym (wrapped-pos w ((2 ^ w - a) / (2 ^ w - b)) (div-lt (2 ^ w - a) (2 ^ w - b) (2 ^ w) (high-fits w a fits h))))
+  high-high h k = rw (h, k, z, of-high w a fits, of-high w b small)
+      (sym (wrapped-pos w ((2 ^ w - a) / (2 ^ w - b)) (div-lt (2 ^ w - a) (2 ^ w - b) (2 ^ w) (high-fits w a fits h))))
 
   rest-low-low : nat_lt a (2 ^ (w - 1)) ≡ true → nat_lt b (2 ^ (w - 1)) ≡ true → Left true w a b
   rest-low-low h k = rw (h, k, z) (sym (wrapped-pos w (a % b) (mod-lt a b (2 ^ w) fits)))
@@ -66,7 +67,8 @@ module _ (w a b : ℕ) (whole : 1 ≤ b) (fits : a < 2 ^ w) (small : b < 2 ^ w) 
   rest-low-high h k = rw (h, k, z, of-high w b small) (sym (wrapped-pos w (a % (2 ^ w - b)) (mod-lt a (2 ^ w - b) (2 ^ w) fits)))
 
   rest-high-high : nat_lt a (2 ^ (w - 1)) ≡ false → nat_lt b (2 ^ (w - 1)) ≡ false → Left true w a b
-  rest-high-high h k = rw (h, k, z, of-high w a fits, of-high w b small) (sym (wrapped-neg w ((2 ^ w - a) % (2 ^ w - b)) (mod-lt (2 ^ w - a) (2 ^ w - b) (2 ^ w) (high-fits w a fits h))))
+  rest-high-high h k = rw (h, k, z, of-high w a fits, of-high w b small)
+      (sym (wrapped-neg w ((2 ^ w - a) % (2 ^ w - b)) (mod-lt (2 ^ w - a) (2 ^ w - b) (2 ^ w) (high-fits w a fits h))))
 
   plain : Same false w a b
   plain = rw z refl
@@ -74,14 +76,16 @@ module _ (w a b : ℕ) (whole : 1 ≤ b) (fits : a < 2 ^ w) (small : b < 2 ^ w) 
   rest-plain : Left false w a b
   rest-plain = rw z refl
 
-pub quotient_is : (s : Bool) (w a b : ℕ) → 1 ≤ b → a < 2 ^ w → b < 2 ^ w → with_sign (differ (is_negative s w a) (is_negative s w b)) w (magnitude s w a / magnitude s w b) ≡ quotient s w a b
+pub quotient_is : (s : Bool) (w a b : ℕ) → 1 ≤ b → a < 2 ^ w → b < 2 ^ w →
+    with_sign (differ (is_negative s w a) (is_negative s w b)) w (magnitude s w a / magnitude s w b) ≡ quotient s w a b
 quotient_is false w a b whole fits small = plain w a b whole fits small
 quotient_is true w a b whole fits small = elim (split (nat_lt a (2 ^ (w - 1)))) [
   | inl h ↦ elim (split (nat_lt b (2 ^ (w - 1)))) [ inl k ↦ low-low w a b whole fits small h k | inr k ↦ low-high w a b whole fits small h k ]
   | inr h ↦ elim (split (nat_lt b (2 ^ (w - 1)))) [ inl k ↦ high-low w a b whole fits small h k | inr k ↦ high-high w a b whole fits small h k ]
 ]
 
-pub remainder_is : (s : Bool) (w a b : ℕ) → 1 ≤ b → a < 2 ^ w → b < 2 ^ w → with_sign (is_negative s w a) w (magnitude s w a % magnitude s w b) ≡ remainder s w a b
+pub remainder_is : (s : Bool) (w a b : ℕ) → 1 ≤ b → a < 2 ^ w → b < 2 ^ w →
+    with_sign (is_negative s w a) w (magnitude s w a % magnitude s w b) ≡ remainder s w a b
 remainder_is false w a b whole fits small = rest-plain w a b whole fits small
 remainder_is true w a b whole fits small = elim (split (nat_lt a (2 ^ (w - 1)))) [
   | inl h ↦ elim (split (nat_lt b (2 ^ (w - 1)))) [ inl k ↦ rest-low-low w a b whole fits small h k | inr k ↦ rest-low-high w a b whole fits small h k ]

@@ -36,30 +36,36 @@ module _ (names : Names) where
   pub head-Cast : (signed : Bool) (a : Expr) → head_of (walk names (e.Cast signed a)).shown.places ≡ head_of (walk names a).shown.places
   head-Cast signed a = ap (λ w. head_of w.shown.places) (walk-Cast names signed a)
 
-  pub head-Bin : (op : Op) (a b : Expr) → head_of (walk names (e.Bin op a b)).shown.places ≡ either (head_of (walk names a).shown.places) (head_of (walk names b).shown.places)
+  pub head-Bin : (op : Op) (a b : Expr) → head_of (walk names (e.Bin op a b)).shown.places ≡ either (head_of (walk names a).shown.places)
+      (head_of (walk names b).shown.places)
   head-Bin op a b = ap (λ w. head_of w.shown.places) (walk-Bin names op a b) ∙ head-both (walk names a).shown.places (walk names b).shown.places
 
-  pub head-Div : (a b : Expr) → head_of (walk names (e.Div a b)).shown.places ≡ either (head_of (walk names a).shown.places) (head_of (walk names b).shown.places)
+  pub head-Div : (a b : Expr) → head_of (walk names (e.Div a b)).shown.places ≡ either (head_of (walk names a).shown.places)
+      (head_of (walk names b).shown.places)
   head-Div a b = ap (λ w. head_of w.shown.places) (walk-Div names a b) ∙ head-both (walk names a).shown.places (walk names b).shown.places
 
-  pub head-Rem : (a b : Expr) → head_of (walk names (e.Rem a b)).shown.places ≡ either (head_of (walk names a).shown.places) (head_of (walk names b).shown.places)
+  pub head-Rem : (a b : Expr) → head_of (walk names (e.Rem a b)).shown.places ≡ either (head_of (walk names a).shown.places)
+      (head_of (walk names b).shown.places)
   head-Rem a b = ap (λ w. head_of w.shown.places) (walk-Rem names a b) ∙ head-both (walk names a).shown.places (walk names b).shown.places
 
   pub head-Cond : (c a b : Expr) → head_of (walk names (e.Cond c a b)).shown.places ≡
       either (either (head_of (walk names c).shown.places) (head_of (walk names a).shown.places)) (head_of (walk names b).shown.places)
-  head-Cond c a b = ap (λ w. head_of w.shown.places) (walk-Cond names c a b) ∙ (head-both ((walk names c).shown.places ++ (walk names a).shown.places) (walk names b).shown.places ∙
+  head-Cond c a b = ap (λ w. head_of w.shown.places) (walk-Cond names c a b) ∙
+      (head-both ((walk names c).shown.places ++ (walk names a).shown.places) (walk names b).shown.places ∙
       ap (λ h. either h (head_of (walk names b).shown.places)) (head-both (walk names c).shown.places (walk names a).shown.places))
 
   pub head-Cat : (es : List Expr) → head_of (walk names (e.Cat es)).shown.places ≡ head_of (joined_places (map (walk names) es))
   head-Cat es = ap (λ w. head_of w.shown.places) (walk-Cat names es) ∙ ap head_of (shown-places (map (walk names) es))
 
-  pub head-Rep : (n : Expr) (es : List Expr) → head_of (walk names (e.Rep n es)).shown.places ≡ either (head_of (walk names n).shown.places) (head_of (joined_places (map (walk names) es)))
+  pub head-Rep : (n : Expr) (es : List Expr) → head_of (walk names (e.Rep n es)).shown.places ≡ either (head_of (walk names n).shown.places)
+      (head_of (joined_places (map (walk names) es)))
   head-Rep n es = ap (λ w. head_of w.shown.places) (walk-Rep names n es) ∙
       (head-both (walk names n).shown.places _ ∙ ap (λ ps. either (head_of (walk names n).shown.places) (head_of ps)) (shown-places (map (walk names) es)))
 
 -- the list from a place on
 pub places-here : (names : Names) (es : List Expr) (i : ℕ) (x : Expr) → i < length es → get_or es i x ≡ x →
-    head_of (joined_places (map (walk names) (drop i es))) ≡ either (head_of (walk names x).shown.places) (head_of (joined_places (map (walk names) (drop (i + 1) es))))
+    head_of (joined_places (map (walk names) (drop i es))) ≡ either (head_of (walk names x).shown.places)
+    (head_of (joined_places (map (walk names) (drop (i + 1) es))))
 places-here names es i x h e = ap (λ ds. head_of (joined_places (map (walk names) ds))) (drop_at es i x h e) ∙
     head-both (walk names x).shown.places (joined_places (map (walk names) (drop (i + 1) es)))
 

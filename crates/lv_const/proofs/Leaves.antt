@@ -22,7 +22,7 @@ use Rattle.lv_const.specs.declared.full.Full.{Full}
 use Rattle.lv_const.specs.declared.error.ConstError.{ConstError}
 use Rattle.lv_const.specs.declared.error.ConstError.TheVariants as x
 use Rattle.lv_const.specs.Constants.{constant_of}
-use Rattle.lv_source.specs.NodeRules.{is_width, is_literal_fault, is_positive, number}
+use Rattle.lv_source.specs.NodeRules.{is_width, is_literal_fault, is_positive, number, is_written, is_early}
 use Rattle.lv_source.specs.Sites.{Walk, WalkStep, Role, Joined, walk, walk_step, below_sites, joined_role, is_driven, first_place, fixed_sites}
 use Rattle.lv_const.specs.Answers.{Told, HasOwn, HasNoOwn, IsOwn, HasFull, IsFull, HaveWidths, AreWidths, read_role, total_width, joined_sites}
 use Rattle.lv_const.specs.Joins.{joined_own, is_count, repeated_own, literal_own}
@@ -38,6 +38,10 @@ joins false = refl
 pub undriven : (j : Bool) → is_driven (read_role j) ≡ false
 undriven true = refl
 undriven false = refl
+
+pub unwritten : (j : Bool) → is_written (read_role j) ≡ false
+unwritten true = refl
+unwritten false = refl
 
 pub and-left : (a b : Bool) → a && b ≡ true → a ≡ true
 and-left true b h = refl
@@ -74,7 +78,8 @@ pub and-false : (b : Bool) → b && false ≡ false
 and-false true = refl
 and-false false = refl
 
-pub count-positive : (signed : Bool) (w a : ℕ) → (nat_lt 0 a && not (signed && not (nat_lt a (2 ^ (w - 1))))) ≡ is_positive (if◌then◌else◌ signed (signed_of w a) (pos a))
+pub count-positive : (signed : Bool) (w a : ℕ) → (nat_lt 0 a && not (signed && not (nat_lt a (2 ^ (w - 1))))) ≡ is_positive
+    (if◌then◌else◌ signed (signed_of w a) (pos a))
 count-positive false w a = and-true (nat_lt 0 a)
 count-positive true w a = elim (split (nat_lt a (2 ^ (w - 1)))) [
   | inl h ↦ rw h (and-true (nat_lt 0 a))
@@ -83,32 +88,33 @@ count-positive true w a = elim (split (nat_lt a (2 ^ (w - 1)))) [
 
 -- ---- literals
 
-module _ (names : Names) (joined : Bool) where
+module _ (early : Path → Bool) (names : Names) (joined : Bool) where
   pub lit-right : (l : Literal) → is_width (size_of l.size) ≡ true → is_literal_fault (read_role joined) l ≡ false →
-      HasOwn (walk_step names (Expr-F.Lit l)) joined (record { width = size_of l.size; signed = l.signed })
+      HasOwn early (walk_step names (Expr-F.Lit l)) joined (record { width = size_of l.size; signed = l.signed })
   lit-right l h k = record {
     width = refl;
     signed = refl;
     some = is-width_some (size_of l.size) h;
     most = is-width_most (size_of l.size) h;
     constant = refl;
-    sound = λ fixed W T. sound-node (site_of names (Expr-F.Lit l) (read_role joined) fixed W T) [] (rw (h, k) refl) sound-none;
+    sound = λ fixed W T. sound-node early (site_of names (Expr-F.Lit l) (read_role joined) fixed W T) [] (rw (h, k) refl) (sound-none early);
   }
 
-  pub lit-wrong : (l : Literal) → (is_width (size_of l.size) && not (is_literal_fault (read_role joined) l)) ≡ false → HasNoOwn (walk_step names (Expr-F.Lit l)) joined (x.Range l.place)
+  pub lit-wrong : (l : Literal) → (is_width (size_of l.size) && not (is_literal_fault (read_role joined) l)) ≡ false →
+      HasNoOwn early (walk_step names (Expr-F.Lit l)) joined (x.Range l.place)
   lit-wrong l h = record {
-    told = λ fixed W T. told-range (site_of names (Expr-F.Lit l) (read_role joined) fixed W T) []
+    told = λ fixed W T. told-range early (site_of names (Expr-F.Lit l) (read_role joined) fixed W T) []
         (wrong-or (is_width (size_of l.size)) (is_literal_fault (read_role joined) l) h);
   }
 
-  lit : (l : Literal) → IsOwn (walk_step names (Expr-F.Lit l)) joined (literal_own l joined)
+  lit : (l : Literal) → IsOwn early (walk_step names (Expr-F.Lit l)) joined (literal_own l joined)
   lit l = elim (split (is_width (size_of l.size) && not (is_literal_fault (read_role joined) l))) [
     | inl h ↦ rw h (record { right = lit-right l (and-left _ _ h) (not-false _ (and-right _ _ h)); wrong = tt })
     | inr h ↦ rw h (record { right = tt; wrong = lit-wrong l h })
   ]
 
-  pub own-Lit : (l : Literal) → IsOwn (walk names (e.Lit l)) joined (literal_own l joined)
-  own-Lit l = subst (λ z. IsOwn z joined (literal_own l joined)) (sym (walk-Lit names l)) (lit l)
+  pub own-Lit : (l : Literal) → IsOwn early (walk names (e.Lit l)) joined (literal_own l joined)
+  own-Lit l = subst (λ z. IsOwn early z joined (literal_own l joined)) (sym (walk-Lit names l)) (lit l)
 
 -- ---- names
 
@@ -130,127 +136,164 @@ read-append : (a : ℕ) (ks : List (Option ℕ)) (k : ℕ) → read_bits a (ks +
 read-append a [] k = omega arith
 read-append a (None ∷ ks) k = ap (λ n. 2 * n) (read-append a ks k) ∙ twice-more (read_bits a ks) (a / 2 ^ k % 2) (length ks)
 read-append a (Some j ∷ ks) k = ap (λ n. a / 2 ^ j % 2 + 2 * n) (read-append a ks k) ∙
-    (ap (λ n. a / 2 ^ j % 2 + n) (twice-more (read_bits a ks) (a / 2 ^ k % 2) (length ks)) ∙ sym (add_assoc (a / 2 ^ j % 2) (2 * read_bits a ks) (a / 2 ^ k % 2 * 2 ^ suc (length ks))))
+    (ap (λ n. a / 2 ^ j % 2 + n) (twice-more (read_bits a ks) (a / 2 ^ k % 2) (length ks)) ∙
+    sym (add_assoc (a / 2 ^ j % 2) (2 * read_bits a ks) (a / 2 ^ k % 2 * 2 ^ suc (length ks))))
 
 read-all : (n a : ℕ) → read_bits a (all_bits n) ≡ a % 2 ^ n
 read-all zero a = sym (mod_one a)
 read-all (suc n) a = read-append a (all_bits n) n ∙ (ap (λ k. k + a / 2 ^ n % 2 * 2 ^ length (all_bits n)) (read-all n a) ∙
     (ap (λ k. a % 2 ^ n + a / 2 ^ n % 2 * 2 ^ k) (length-all_bits n) ∙ next-bit n a))
 
-pub bare-value : (T : Bool) (left right w W a : ℕ) → span left right ≡ w → a < 2 ^ w → extended T w W a ≡ extended T (length (all_bits (span left right))) W (read_bits a (all_bits (span left right)))
+pub bare-value : (T : Bool) (left right w W a : ℕ) → span left right ≡ w → a < 2 ^ w →
+    extended T w W a ≡ extended T (length (all_bits (span left right))) W (read_bits a (all_bits (span left right)))
 bare-value T left right w W a e fits =
     let r : read_bits a (all_bits (span left right)) ≡ a = read-all (span left right) a ∙ (ap (λ k. a % 2 ^ k) e ∙ mod-eq_of_lt fits) in
-    sym (ap (λ k. extended T (length (all_bits (span left right))) W k) r ∙ (ap (λ k. extended T k W a) (length-all_bits (span left right)) ∙ ap (λ k. extended T k W a) e))
+    sym (ap (λ k. extended T (length (all_bits (span left right))) W k) r ∙
+    (ap (λ k. extended T k W a) (length-all_bits (span left right)) ∙ ap (λ k. extended T k W a) e))
 
 pub length-rising : (from : ℤ) (n : ℕ) → length (rising from n) ≡ n
 length-rising from zero = refl
 length-rising from (suc n) = ap suc (length-rising (from +ℤ pos 1) n)
 
-module _ (names : Names) (joined : Bool) (path : Path) (c : Const) (known : names path ≡ Some (constant_of path.name c)) where
+module _ (early : Path → Bool) (names : Names) (joined : Bool) (path : Path) (c : Const)
+    (known : names path ≡ Some (constant_of path.name c)) (ahead : early path ≡ true) where
   pub bare : 1 ≤ width_of (constant_of path.name c) → width_of (constant_of path.name c) ≤ 128 →
-      HasOwn (walk_step names (Expr-F.Name path [])) joined (record { width = width_of (constant_of path.name c); signed = c.signed })
+      HasOwn early (walk_step names (Expr-F.Name path [])) joined (record { width = width_of (constant_of path.name c); signed = c.signed })
   bare some most = record {
     width = rw known (sym (length-all_bits (width_of (constant_of path.name c))));
     signed = rw known refl;
     some = some;
     most = most;
     constant = rw known refl;
-    sound = λ fixed W T. sound-node (site_of names (Expr-F.Name path []) (read_role joined) fixed W T) []
-        (rw (known, length-all_bits (width_of (constant_of path.name c)), width_in (width_of (constant_of path.name c)) some most) refl) sound-none;
+    sound = λ fixed W T. sound-node early (site_of names (Expr-F.Name path []) (read_role joined) fixed W T) []
+        (rw (
+          known,
+          ahead,
+          unwritten joined,
+          length-all_bits (width_of (constant_of path.name c)),
+          width_in (width_of (constant_of path.name c)) some most,
+        ) refl) (sound-none early);
   }
 
-module _ (names : Names) (path : Path) (ss : List WalkStep) (role : Role) (fixed : Option ℕ) (W : ℕ) (T : Bool) where
-  pub unknown : names path ≡ None → Told (site_of names (Expr-F.Name path ss) role fixed W T ∷ below_sites (Expr-F.Name path ss) role fixed W T) (x.NoValue path.place)
-  unknown h = told-name (site_of names (Expr-F.Name path ss) role fixed W T) (below_sites (Expr-F.Name path ss) role fixed W T) (x.NoValue path.place) [] (rw h refl)
+module _ (early : Path → Bool) (names : Names) (path : Path) (ss : List WalkStep) (role : Role) (fixed : Option ℕ) (W : ℕ) (T : Bool) where
+  pub unknown : is_early (early path) (names path) ≡ false →
+      Told early (site_of names (Expr-F.Name path ss) role fixed W T ∷ below_sites (Expr-F.Name path ss) role fixed W T) (x.NoValue path.place)
+  unknown h = told-name early (site_of names (Expr-F.Name path ss) role fixed W T) (below_sites (Expr-F.Name path ss) role fixed W T) path.place (rw h refl)
 
-pub own-none : (names : Names) (joined : Bool) (path : Path) (ss : List WalkStep) → names path ≡ None → HasNoOwn (walk_step names (Expr-F.Name path ss)) joined (x.NoValue path.place)
-own-none names joined path ss h = record { told = λ fixed W T. unknown names path ss (read_role joined) fixed W T h }
+module _ (early : Path → Bool) where
+  pub own-none : (names : Names) (joined : Bool) (path : Path) (ss : List WalkStep) → is_early (early path) (names path) ≡ false →
+      HasNoOwn early (walk_step names (Expr-F.Name path ss)) joined (x.NoValue path.place)
+  own-none names joined path ss h = record { told = λ fixed W T. unknown early names path ss (read_role joined) fixed W T h }
 
 -- ---- concatenations and replications
 
 pub shown-widths : (ws : List Walk) → widths (meanings (map (λ r. r.reading) (map (λ w. w.shown) ws))) ≡ total_width ws
 shown-widths [] = refl
-shown-widths (w ∷ ws) = sum_by-cons (λ (k : ℕ). k) w.shown.reading.meaning.width (map (λ m. m.width) (meanings (map (λ r. r.reading) (map (λ v. v.shown) ws)))) ∙
+shown-widths (w ∷ ws) = sum_by-cons (λ (k : ℕ). k) w.shown.reading.meaning.width
+    (map (λ m. m.width) (meanings (map (λ r. r.reading) (map (λ v. v.shown) ws)))) ∙
     ap (λ n. w.shown.reading.meaning.width + n) (shown-widths ws)
 
 shown-constant : (ws : List Walk) → list_all (λ r. r.constant) (map (λ r. r.reading) (map (λ w. w.shown) ws)) ≡ list_all (λ w. w.shown.reading.constant) ws
 shown-constant [] = refl
 shown-constant (w ∷ ws) = ap (λ b. w.shown.reading.constant && b) (shown-constant ws)
 
-module _ (names : Names) (joined : Bool) where
-  pub cat-right : (ws : List Walk) (place total : ℕ) → HaveWidths ws total → is_width total ≡ true → HasOwn (walk_step names (Expr-F.Cat ws)) joined (record { width = total; signed = false })
+module _ (early : Path → Bool) (names : Names) (joined : Bool) where
+  pub cat-right : (ws : List Walk) (place total : ℕ) → HaveWidths early ws total → is_width total ≡ true →
+      HasOwn early (walk_step names (Expr-F.Cat ws)) joined (record { width = total; signed = false })
   cat-right ws place total h k =
-      has names (Expr-F.Cat ws) joined (record { width = total; signed = false }) refl (h.width ∙ sym (shown-widths ws)) refl (is-width_some total k) (is-width_most total k)
+      has early names (Expr-F.Cat ws) joined (record { width = total; signed = false }) refl (h.width ∙ sym (shown-widths ws)) refl (is-width_some total k)
+      (is-width_most total k)
       (shown-constant ws ∙ h.constant)
       (λ fixed W T. rw (joins joined) (h.sound fixed))
 
-  cat-wide : (ws : List Walk) (total : ℕ) → HaveWidths ws total → is_width total ≡ false →
-      HasNoOwn (walk_step names (Expr-F.Cat ws)) joined (x.Range (first_place (walk_step names (Expr-F.Cat ws)).shown))
+  cat-wide : (ws : List Walk) (total : ℕ) → HaveWidths early ws total → is_width total ≡ false →
+      HasNoOwn early (walk_step names (Expr-F.Cat ws)) joined (x.Range (first_place (walk_step names (Expr-F.Cat ws)).shown))
   cat-wide ws total h k =
       let e : is_width (widths (meanings (map (λ r. r.reading) (map (λ w. w.shown) ws)))) ≡ false = ap is_width (shown-widths ws ∙ sym h.width) ∙ k in
-      record { told = λ fixed W T. told-range (site_of names (Expr-F.Cat ws) (read_role joined) fixed W T) (below_sites (Expr-F.Cat ws) (read_role joined) fixed W T) (rw e refl) }
+      record {
+        told = λ fixed W T. told-range early (site_of names (Expr-F.Cat ws) (read_role joined) fixed W T)
+            (below_sites (Expr-F.Cat ws) (read_role joined) fixed W T) (rw e refl);
+      }
 
-  cat : (ws : List Walk) (r : Result ℕ ConstError) → AreWidths ws r → IsOwn (walk_step names (Expr-F.Cat ws)) joined (joined_own (first_place (walk_step names (Expr-F.Cat ws)).shown) r)
-  cat ws (Err x) h = record { right = tt; wrong = hasnt names (Expr-F.Cat ws) joined x (λ fixed W T. rw (joins joined) (h.wrong.told fixed)) }
+  cat : (ws : List Walk) (r : Result ℕ ConstError) → AreWidths early ws r →
+      IsOwn early (walk_step names (Expr-F.Cat ws)) joined (joined_own (first_place (walk_step names (Expr-F.Cat ws)).shown) r)
+  cat ws (Err x) h = record { right = tt; wrong = hasnt early names (Expr-F.Cat ws) joined x (λ fixed W T. rw (joins joined) (h.wrong.told fixed)) }
   cat ws (Ok total) h = elim (split (is_width total)) [
     | inl k ↦ rw k (record { right = cat-right ws 0 total h.right k; wrong = tt })
     | inr k ↦ rw k (record { right = tt; wrong = cat-wide ws total h.right k })
   ]
 
-  pub own-Cat : (es : List Expr) (r : Result ℕ ConstError) (place : ℕ) → place ≡ first_place (walk names (e.Cat es)).shown → AreWidths (map (walk names) es) r →
-      IsOwn (walk names (e.Cat es)) joined (joined_own place r)
-  own-Cat es r place at h = subst (λ q. IsOwn (walk names (e.Cat es)) joined (joined_own q r)) (sym at)
-      (subst (λ z. IsOwn z joined (joined_own (first_place z.shown) r)) (sym (walk-Cat names es)) (cat (map (walk names) es) r h))
+  pub own-Cat : (es : List Expr) (r : Result ℕ ConstError) (place : ℕ) → place ≡ first_place (walk names (e.Cat es)).shown →
+      AreWidths early (map (walk names) es) r →
+      IsOwn early (walk names (e.Cat es)) joined (joined_own place r)
+  own-Cat es r place at h = subst (λ q. IsOwn early (walk names (e.Cat es)) joined (joined_own q r)) (sym at)
+      (subst (λ z. IsOwn early z joined (joined_own (first_place z.shown) r)) (sym (walk-Cat names es)) (cat (map (walk names) es) r h))
 
-pub positive : (w : Walk) (f : Full) → HasFull w false f → is_count f ≡ is_positive (number w.shown)
-positive w f h =
-    let m : Meaning = w.shown.reading.meaning in
-    count-positive f.signed f.word.width f.word.value ∙
-    (ap (λ n. is_positive (if◌then◌else◌ f.signed (signed_of f.word.width n) (pos n))) (h.value.is nowhere) ∙
-    (ap (λ k. is_positive (if◌then◌else◌ f.signed (signed_of k (m.value k f.signed nowhere)) (pos (m.value k f.signed nowhere)))) h.own.width ∙
-    ap (λ b. is_positive (if◌then◌else◌ b (signed_of m.width (m.value m.width b nowhere)) (pos (m.value m.width b nowhere)))) h.own.signed))
+module _ (early : Path → Bool) where
+  pub positive : (w : Walk) (f : Full) → HasFull early w false f → is_count f ≡ is_positive (number w.shown)
+  positive w f h =
+      let m : Meaning = w.shown.reading.meaning in
+      count-positive f.signed f.word.width f.word.value ∙
+      (ap (λ n. is_positive (if◌then◌else◌ f.signed (signed_of f.word.width n) (pos n))) (h.value.is nowhere) ∙
+      (ap (λ k. is_positive (if◌then◌else◌ f.signed (signed_of k (m.value k f.signed nowhere)) (pos (m.value k f.signed nowhere)))) h.own.width ∙
+      ap (λ b. is_positive (if◌then◌else◌ b (signed_of m.width (m.value m.width b nowhere)) (pos (m.value m.width b nowhere)))) h.own.signed))
 
-pub count-value : (w : Walk) (f : Full) → HasFull w false f → f.word.value ≡ own_value w.shown.reading.meaning nowhere
-count-value w f h =
-    let m : Meaning = w.shown.reading.meaning in
-    h.value.is nowhere ∙ (ap (λ k. m.value k f.signed nowhere) h.own.width ∙ ap (λ b. m.value m.width b nowhere) h.own.signed)
+  pub count-value : (w : Walk) (f : Full) → HasFull early w false f → f.word.value ≡ own_value w.shown.reading.meaning nowhere
+  count-value w f h =
+      let m : Meaning = w.shown.reading.meaning in
+      h.value.is nowhere ∙ (ap (λ k. m.value k f.signed nowhere) h.own.width ∙ ap (λ b. m.value m.width b nowhere) h.own.signed)
 
-module _ (names : Names) (joined : Bool) where
-  pub rep-width : (n : Walk) (ws : List Walk) (f : Full) (total : ℕ) → HasFull n false f → HaveWidths ws total →
+module _ (early : Path → Bool) (names : Names) (joined : Bool) where
+  pub rep-width : (n : Walk) (ws : List Walk) (f : Full) (total : ℕ) → HasFull early n false f → HaveWidths early ws total →
       f.word.value * total ≡ (walk_step names (Expr-F.Rep n ws)).shown.reading.meaning.width
-  rep-width n ws f total h g = ap (λ k. k * total) (count-value n f h) ∙ ap (λ k. own_value n.shown.reading.meaning nowhere * k) (g.width ∙ sym (shown-widths ws))
+  rep-width n ws f total h g = ap (λ k. k * total) (count-value early n f h) ∙
+      ap (λ k. own_value n.shown.reading.meaning nowhere * k) (g.width ∙ sym (shown-widths ws))
 
-  pub rep-right : (n : Walk) (ws : List Walk) (f : Full) (total : ℕ) → HasFull n false f → HaveWidths ws total → is_count f ≡ true → is_width (f.word.value * total) ≡ true →
-      HasOwn (walk_step names (Expr-F.Rep n ws)) joined (record { width = f.word.value * total; signed = false })
+  pub rep-right : (n : Walk) (ws : List Walk) (f : Full) (total : ℕ) → HasFull early n false f → HaveWidths early ws total → is_count f ≡ true →
+      is_width (f.word.value * total) ≡ true →
+      HasOwn early (walk_step names (Expr-F.Rep n ws)) joined (record { width = f.word.value * total; signed = false })
   rep-right n ws f total h g c k = record {
     width = rep-width n ws f total h g;
     signed = refl;
     some = is-width_some (f.word.value * total) k;
     most = is-width_most (f.word.value * total) k;
     constant = rw (h.own.constant) (shown-constant ws ∙ g.constant);
-    sound = λ fixed W T. sound-node (site_of names (Expr-F.Rep n ws) (read_role joined) fixed W T) (below_sites (Expr-F.Rep n ws) (read_role joined) fixed W T)
+    sound = λ fixed W T. sound-node early (site_of names (Expr-F.Rep n ws) (read_role joined) fixed W T)
+        (below_sites (Expr-F.Rep n ws) (read_role joined) fixed W T)
         (let e : is_width (walk_step names (Expr-F.Rep n ws)).shown.reading.meaning.width ≡ true = ap is_width (sym (rep-width n ws f total h g)) ∙ k in
-        let p : is_positive (number n.shown) ≡ true = sym (positive n f h) ∙ c in rw (e, p) refl)
-        (sound-both (fixed_sites n) (joined_sites fixed ws) (h.own.sound (Some (first_place n.shown)) n.shown.reading.meaning.width n.shown.reading.meaning.signed) (g.sound fixed));
+        let p : is_positive (number n.shown) ≡ true = sym (positive early n f h) ∙ c in rw (e, p) refl)
+        (sound-both early (fixed_sites n) (joined_sites fixed ws)
+        (h.own.sound (Some (first_place n.shown)) n.shown.reading.meaning.width n.shown.reading.meaning.signed) (g.sound fixed));
   }
 
-  pub rep-wide : (n : Walk) (ws : List Walk) (f : Full) (total : ℕ) → HasFull n false f → HaveWidths ws total → (is_width (f.word.value * total) ≡ false) ⊎ (is_count f ≡ false) →
-      HasNoOwn (walk_step names (Expr-F.Rep n ws)) joined (x.Range (first_place (walk_step names (Expr-F.Rep n ws)).shown))
+  pub rep-wide : (n : Walk) (ws : List Walk) (f : Full) (total : ℕ) → HasFull early n false f → HaveWidths early ws total →
+      (is_width (f.word.value * total) ≡ false) ⊎ (is_count f ≡ false) →
+      HasNoOwn early (walk_step names (Expr-F.Rep n ws)) joined (x.Range (first_place (walk_step names (Expr-F.Rep n ws)).shown))
   rep-wide n ws f total h g (inl k) =
       let e : is_width (walk_step names (Expr-F.Rep n ws)).shown.reading.meaning.width ≡ false = ap is_width (sym (rep-width n ws f total h g)) ∙ k in
-      record { told = λ fixed W T. told-range (site_of names (Expr-F.Rep n ws) (read_role joined) fixed W T) (below_sites (Expr-F.Rep n ws) (read_role joined) fixed W T) (rw e refl) }
+      record {
+        told = λ fixed W T. told-range early (site_of names (Expr-F.Rep n ws) (read_role joined) fixed W T)
+            (below_sites (Expr-F.Rep n ws) (read_role joined) fixed W T) (rw e refl);
+      }
   rep-wide n ws f total h g (inr c) =
-      let p : is_positive (number n.shown) ≡ false = sym (positive n f h) ∙ c in
-      record { told = λ fixed W T. told-range (site_of names (Expr-F.Rep n ws) (read_role joined) fixed W T) (below_sites (Expr-F.Rep n ws) (read_role joined) fixed W T) (rw p (or-true _)) }
+      let p : is_positive (number n.shown) ≡ false = sym (positive early n f h) ∙ c in
+      record {
+        told = λ fixed W T. told-range early (site_of names (Expr-F.Rep n ws) (read_role joined) fixed W T)
+            (below_sites (Expr-F.Rep n ws) (read_role joined) fixed W T) (rw p (or-true _));
+      }
 
-  rep : (n : Walk) (ws : List Walk) (r : Result Full ConstError) (q : Result ℕ ConstError) → IsFull n false r → AreWidths ws q →
-      IsOwn (walk_step names (Expr-F.Rep n ws)) joined (repeated_own (first_place (walk_step names (Expr-F.Rep n ws)).shown) r q)
+  rep : (n : Walk) (ws : List Walk) (r : Result Full ConstError) (q : Result ℕ ConstError) → IsFull early n false r → AreWidths early ws q →
+      IsOwn early (walk_step names (Expr-F.Rep n ws)) joined (repeated_own (first_place (walk_step names (Expr-F.Rep n ws)).shown) r q)
   rep n ws (Err x) q h g = record {
     right = tt;
-    wrong = hasnt names (Expr-F.Rep n ws) joined x
-        (λ fixed W T. told-first (fixed_sites n) (joined_sites fixed ws) x (h.wrong.told (Some (first_place n.shown))));
+    wrong = hasnt early names (Expr-F.Rep n ws) joined x
+        (λ fixed W T. told-first early (fixed_sites n) (joined_sites fixed ws) x (h.wrong.told (Some (first_place n.shown))));
   }
-  rep n ws (Ok f) (Err x) h g = record { right = tt; wrong = hasnt names (Expr-F.Rep n ws) joined x (λ fixed W T. told-second (fixed_sites n) (joined_sites fixed ws) x (g.wrong.told fixed)) }
+  rep n ws (Ok f) (Err x) h g = record {
+    right = tt;
+    wrong =
+        hasnt early names (Expr-F.Rep n ws) joined x (λ fixed W T. told-second early (fixed_sites n) (joined_sites fixed ws) x (g.wrong.told fixed));
+  }
   rep n ws (Ok f) (Ok total) h g = elim (split (is_count f)) [
     | inl c ↦ elim (split (is_width (f.word.value * total))) [
       | inl k ↦ rw (c, k) (record { right = rep-right n ws f total h.right g.right c k; wrong = tt })
@@ -259,7 +302,9 @@ module _ (names : Names) (joined : Bool) where
     | inr c ↦ rw c (record { right = tt; wrong = rep-wide n ws f total h.right g.right (inr c) })
   ]
 
-  pub own-Rep : (n : Expr) (es : List Expr) (r : Result Full ConstError) (q : Result ℕ ConstError) (place : ℕ) → place ≡ first_place (walk names (e.Rep n es)).shown →
-      IsFull (walk names n) false r → AreWidths (map (walk names) es) q → IsOwn (walk names (e.Rep n es)) joined (repeated_own place r q)
-  own-Rep n es r q place at h g = subst (λ p. IsOwn (walk names (e.Rep n es)) joined (repeated_own p r q)) (sym at)
-      (subst (λ z. IsOwn z joined (repeated_own (first_place z.shown) r q)) (sym (walk-Rep names n es)) (rep (walk names n) (map (walk names) es) r q h g))
+  pub own-Rep : (n : Expr) (es : List Expr) (r : Result Full ConstError) (q : Result ℕ ConstError) (place : ℕ) →
+      place ≡ first_place (walk names (e.Rep n es)).shown →
+      IsFull early (walk names n) false r → AreWidths early (map (walk names) es) q → IsOwn early (walk names (e.Rep n es)) joined (repeated_own place r q)
+  own-Rep n es r q place at h g = subst (λ p. IsOwn early (walk names (e.Rep n es)) joined (repeated_own p r q)) (sym at)
+      (subst (λ z. IsOwn early z joined (repeated_own (first_place z.shown) r q)) (sym (walk-Rep names n es))
+      (rep (walk names n) (map (walk names) es) r q h g))

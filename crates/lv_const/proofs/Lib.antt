@@ -1,4 +1,5 @@
 pub mod Arms
+pub mod Declared
 pub mod Division
 pub mod Heads
 pub mod Latest
@@ -9,8 +10,11 @@ pub mod Owns
 pub mod Plains
 pub mod Publics
 pub mod Reached
+pub mod Refusals
 pub mod Runs
+pub mod SamePlaces
 pub mod Selects
+pub mod Stands
 pub mod Told
 pub mod WalkReads
 pub mod Walks

@@ -48,7 +48,8 @@ falling_all x lowest count n old b h e =
 pub rising_more : (x lowest j old : ℕ) (b : Bounds) → old ≡ read_bits x (reverse (map (near_place b) (range_with_len lowest j))) →
     2 * old + place_bit x (near_place b (lowest + j)) ≡ read_bits x (reverse (map (near_place b) (range_with_len lowest (j + 1))))
 rising_more x lowest j old b e =
-    ap (λ k. 2 * k + place_bit x (near_place b (lowest + j))) e ∙ (read-more x (near_place b (lowest + j)) (reverse (map (near_place b) (range_with_len lowest j))) ∙
+    ap (λ k. 2 * k + place_bit x (near_place b (lowest + j))) e ∙
+    (read-more x (near_place b (lowest + j)) (reverse (map (near_place b) (range_with_len lowest j))) ∙
     sym (ap (λ ks. read_bits x (reverse ks)) (map-range_with_len_more (near_place b) lowest j (lowest + j) refl) ∙
     ap (read_bits x) (reverse-append (map (near_place b) (range_with_len lowest j)) (near_place b (lowest + j) ∷ []))))
 
@@ -68,10 +69,13 @@ next : (z : ℤ) (m n : ℕ) → IsNear z m (suc n) → IsNear (z +ℤ pos 1) (m
 next z m zero h = nothing (z +ℤ pos 1) (m + 1)
 next z m (suc n) (at k _) = moved (pos k +ℤ pos 1) (pos (k + 1)) (k + 2048 + 1) (k + 1 + 2048) (suc n) (omega (arith, ints)) (omega arith) (at (k + 1) (suc n))
 next z m (suc n) (under zero _ _ e) = moved (negsuc zero +ℤ pos 1) (pos 0) (m + 1) (0 + 2048) (suc n) (omega (arith, ints)) (omega (arith, e)) (at 0 (suc n))
-next z m (suc n) (under (suc k) _ _ e) = moved (negsuc (suc k) +ℤ pos 1) (negsuc k) (m + 1) (m + 1) (suc n) (omega (arith, ints)) refl (under k (m + 1) (suc n) (omega (arith, e)))
-next z m (suc n) (far k _ _ e f) = moved (pos k +ℤ pos 1) (pos (k + 1)) (m + 1) (m + 1) (suc n) (omega (arith, ints)) refl (far (k + 1) (m + 1) (suc n) (omega (arith, e)) (omega (arith, f)))
+next z m (suc n) (under (suc k) _ _ e) = moved (negsuc (suc k) +ℤ pos 1) (negsuc k) (m + 1) (m + 1) (suc n) (omega (arith, ints)) refl
+    (under k (m + 1) (suc n) (omega (arith, e)))
+next z m (suc n) (far k _ _ e f) = moved (pos k +ℤ pos 1) (pos (k + 1)) (m + 1) (m + 1) (suc n) (omega (arith, ints)) refl
+    (far (k + 1) (m + 1) (suc n) (omega (arith, e)) (omega (arith, f)))
 next z m (suc n) (deep zero _ _ e f) = absurd (omega (arith, e))
-next z m (suc n) (deep (suc k) _ _ e f) = moved (negsuc (suc k) +ℤ pos 1) (negsuc k) (m + 1) (m + 1) (suc n) (omega (arith, ints)) refl (deep k (m + 1) (suc n) (omega (arith, e)) (omega (arith, f)))
+next z m (suc n) (deep (suc k) _ _ e f) = moved (negsuc (suc k) +ℤ pos 1) (negsuc k) (m + 1) (m + 1) (suc n) (omega (arith, ints)) refl
+    (deep k (m + 1) (suc n) (omega (arith, e)) (omega (arith, f)))
 
 pick : {A : Type 0} (p q : Bool) (x : A) → (if not p && not q then Some x else None) ≡ (if p then None else (if q then None else Some x))
 pick true q x = refl
@@ -85,7 +89,8 @@ pick-none false x = refl
 shift-lt : (a b : ℕ) → nat_lt (a + 2048) (b + 2048) ≡ nat_lt a b
 shift-lt a b = elim (split (nat_lt a b)) [ inl h ↦ grind (arith, nat_tests) | inr h ↦ grind (arith, nat_tests) ]
 
-shift-place : (b : Bounds) (k : ℕ) → (if falls b then k - b.right else b.right - k) ≡ (if falls b then k + 2048 - 2048 - b.right else b.right - (k + 2048 - 2048))
+shift-place : (b : Bounds) (k : ℕ) → (if falls b then k - b.right else b.right - k) ≡
+    (if falls b then k + 2048 - 2048 - b.right else b.right - (k + 2048 - 2048))
 shift-place b k = let e : k + 2048 - 2048 ≡ k = omega arith in ap (λ n. if falls b then n - b.right else b.right - n) (sym e)
 
 from-lt : (a b : ℕ) → nat_lt a b ≡ true → a < b
@@ -106,17 +111,22 @@ lt-true a b h = grind (arith, nat_tests)
 head : (b : Bounds) → high b ≤ 65535 → (z : ℤ) (m n : ℕ) → IsNear z m (suc n) → bit_place b z ≡ near_place b m
 head b h z m n (at k _) = pick (nat_lt k (low b)) (nat_lt (high b) k) (if falls b then k - b.right else b.right - k) ∙
     (ap (λ p. if p then None else (if nat_lt (high b) k then None else Some (if falls b then k - b.right else b.right - k))) (sym (shift-lt k (low b))) ∙
-    (ap (λ p. if nat_lt (k + 2048) (low b + 2048) then None else (if p then None else Some (if falls b then k - b.right else b.right - k))) (sym (shift-lt (high b) k)) ∙
+    (ap (λ p. if nat_lt (k + 2048) (low b + 2048) then None else (if p then None else Some (if falls b then k - b.right else b.right - k)))
+    (sym (shift-lt (high b) k)) ∙
     ap (λ p. if nat_lt (k + 2048) (low b + 2048) then None else (if nat_lt (high b + 2048) (k + 2048) then None else Some p)) (shift-place b k)))
-head b h z m n (under k _ _ e) = sym (ap (λ p. if p then None else (if nat_lt (high b + 2048) m then None else Some (if falls b then m - 2048 - b.right else b.right - (m - 2048))))
+head b h z m n (under k _ _ e) = sym (ap (λ p. if p then None else (if nat_lt (high b + 2048) m then None else Some
+    (if falls b then m - 2048 - b.right else b.right - (m - 2048))))
     (lt-true m (low b + 2048) (omega (arith, e))))
 head b h z m n (far k _ _ e f) =
     pick (nat_lt k (low b)) (nat_lt (high b) k) (if falls b then k - b.right else b.right - k) ∙
-    (ap (λ p. if nat_lt k (low b) then None else (if p then None else Some (if falls b then k - b.right else b.right - k))) (lt-true (high b) k (omega (arith, e, h))) ∙
+    (ap (λ p. if nat_lt k (low b) then None else (if p then None else Some (if falls b then k - b.right else b.right - k)))
+    (lt-true (high b) k (omega (arith, e, h))) ∙
     (pick-none (nat_lt k (low b)) (Some (if falls b then k - b.right else b.right - k)) ∙ sym
-    (ap (λ p. if nat_lt m (low b + 2048) then None else (if p then None else Some (if falls b then m - 2048 - b.right else b.right - (m - 2048)))) (lt-true (high b + 2048) m (omega (arith, f, h))) ∙
+    (ap (λ p. if nat_lt m (low b + 2048) then None else (if p then None else Some (if falls b then m - 2048 - b.right else b.right - (m - 2048))))
+    (lt-true (high b + 2048) m (omega (arith, f, h))) ∙
     pick-none (nat_lt m (low b + 2048)) (Some (if falls b then m - 2048 - b.right else b.right - (m - 2048))))))
-head b h z m n (deep k _ _ e f) = sym (ap (λ p. if p then None else (if nat_lt (high b + 2048) m then None else Some (if falls b then m - 2048 - b.right else b.right - (m - 2048))))
+head b h z m n (deep k _ _ e f) = sym (ap (λ p. if p then None else (if nat_lt (high b + 2048) m then None else Some
+    (if falls b then m - 2048 - b.right else b.right - (m - 2048))))
     (lt-true m (low b + 2048) (omega (arith, f))))
 
 two : {A : Type 0} (a b : A) (xs ys : List A) → a ≡ b → xs ≡ ys → a ∷ xs ≡ b ∷ ys
@@ -128,7 +138,8 @@ agree b h z m (suc n) i = two (near_place b m) (bit_place b z) _ _ (sym (head b 
 
 map-reverse : {A B : Type 0} (f : A → B) (xs : List A) → map f (reverse xs) ≡ reverse (map f xs)
 map-reverse f [] = refl
-map-reverse f (x ∷ xs) = ap (map f) (reverse-append (x ∷ []) xs) ∙ (map-append f (reverse xs) (x ∷ []) ∙ (ap (λ ys. ys ++ f x ∷ []) (map-reverse f xs) ∙ sym (reverse-append (f x ∷ []) (map f xs))))
+map-reverse f (x ∷ xs) = ap (map f) (reverse-append (x ∷ []) xs) ∙
+    (map-append f (reverse xs) (x ∷ []) ∙ (ap (λ ys. ys ++ f x ∷ []) (map-reverse f xs) ∙ sym (reverse-append (f x ∷ []) (map f xs))))
 
 run-near : (c : Const) (z : ℤ) (m n : ℕ) → high (bounds_of c) ≤ 65535 → IsNear z m n → near_run c m n ≡ bits_at c z n
 run-near c z m n h i =
@@ -158,7 +169,8 @@ is-lower (pos k) n h = elim (split (nat_lt 70000 k)) [
         moved (pos k -ℤ pos (n - 1)) (negsuc (n - 1 - k - 1)) (min k 70000 + 2048 - (n - 1)) (k + 2048 - (n - 1)) n (omega (arith, ints, g)) (omega (arith, l))
         (under (n - 1 - k - 1) (k + 2048 - (n - 1)) n (omega (arith, g, h)))
     | inr u ↦ let g : n - 1 ≤ k = from-not k (n - 1) u in
-        moved (pos k -ℤ pos (n - 1)) (pos (k - (n - 1))) (min k 70000 + 2048 - (n - 1)) (k - (n - 1) + 2048) n (omega (arith, ints, g)) (omega (arith, l, g)) (at (k - (n - 1)) n)
+        moved (pos k -ℤ pos (n - 1)) (pos (k - (n - 1))) (min k 70000 + 2048 - (n - 1)) (k - (n - 1) + 2048) n (omega (arith, ints, g)) (omega (arith, l, g))
+        (at (k - (n - 1)) n)
   ]
 ]
 is-lower (negsuc k) n h = elim (split (nat_lt 999 k)) [

@@ -11,7 +11,7 @@ use Rattle.lv_source.specs.Values.{unary, binary, chosen, concatenated, replicat
 use Rattle.lv_source.specs.Meaning.{Reading, Choice, reading, meanings, named, read_step, choice, read_expr}
 use Rattle.lv_source.specs.Sites.{Walk, WalkStep, walk_step, walk_select_step, walk, step_shown, step_choice}
 
-two-same : {A B C : Type 0} (f : A → B → C) {a b : A} {c d : B} → a ≡ b → c ≡ d → f a c ≡ f b d
+pub two-same : {A B C : Type 0} (f : A → B → C) {a b : A} {c d : B} → a ≡ b → c ≡ d → f a c ≡ f b d
 two-same f {a = a} {d = d} h k = ap (f a) k ∙ ap (λ x. f x d) h
 
 module _ (names : Names) where
@@ -26,7 +26,8 @@ module _ (names : Names) where
     fold-reads (e.Cond' n c m a k b) =
         ap (λ r. reading (chosen r.meaning (fold_one Walk WalkStep (walk_step names) walk_select_step a).shown.reading.meaning
         (fold_one Walk WalkStep (walk_step names) walk_select_step b).shown.reading.meaning)
-        (r ∷ (fold_one Walk WalkStep (walk_step names) walk_select_step a).shown.reading ∷ (fold_one Walk WalkStep (walk_step names) walk_select_step b).shown.reading ∷ []))
+        (r ∷ (fold_one Walk WalkStep (walk_step names) walk_select_step a).shown.reading ∷ (fold_one Walk WalkStep
+        (walk_step names) walk_select_step b).shown.reading ∷ []))
         (fold-one c) ∙
         two-same (λ r q. reading (chosen (fold_one Reading Choice (read_step names) choice c).meaning r.meaning q.meaning)
         (fold_one Reading Choice (read_step names) choice c ∷ r ∷ q ∷ [])) (fold-one a) (fold-one b)
@@ -34,22 +35,26 @@ module _ (names : Names) where
     fold-reads (e.Rep' n a m es) = two-same (λ r rs. reading (replicated r.meaning (meanings rs)) (r ∷ rs)) (fold-one a) (fold-all es)
     fold-reads (e.Cast' signed n a) = ap (λ r. reading (cast signed r.meaning) (r ∷ [])) (fold-one a)
 
-    fold-one : {n : _} (r : Row_of-Expr n) → (fold_one Walk WalkStep (walk_step names) walk_select_step r).shown.reading ≡ fold_one Reading Choice (read_step names) choice r
+    fold-one : {n : _} (r : Row_of-Expr n) → (fold_one Walk WalkStep (walk_step names) walk_select_step r).shown.reading ≡ fold_one Reading Choice
+        (read_step names) choice r
     fold-one end_of-Expr = refl
     fold-one (more_of-Expr x xs) = fold-reads x
 
-    fold-all : {n : _} (r : Row_of-Expr n) → map (λ r. r.reading) (map (λ w. w.shown) (fold_exprs Walk WalkStep (walk_step names) walk_select_step r)) ≡ fold_exprs Reading Choice
+    fold-all : {n : _} (r : Row_of-Expr n) → map (λ r. r.reading)
+        (map (λ w. w.shown) (fold_exprs Walk WalkStep (walk_step names) walk_select_step r)) ≡ fold_exprs Reading Choice
         (read_step names) choice r
     fold-all end_of-Expr = refl
     fold-all (more_of-Expr x xs) = two-same (λ r rs. r ∷ rs) (fold-reads x) (fold-all xs)
 
-    fold-choice : (x : Select) → step_choice (step_shown (fold_select Walk WalkStep (walk_step names) walk_select_step x)) ≡ fold_select Reading Choice (read_step names) choice x
+    fold-choice : (x : Select) → step_choice (step_shown (fold_select Walk WalkStep (walk_step names) walk_select_step x)) ≡ fold_select Reading Choice
+        (read_step names) choice x
     fold-choice (s.Bit' n a) = ap (λ r. Select-F.Bit r) (fold-one a)
     fold-choice (s.Part' n a m b) = two-same (λ r q. Select-F.Part r q) (fold-one a) (fold-one b)
     fold-choice (s.Up' n a m b) = two-same (λ r q. Select-F.Up r q) (fold-one a) (fold-one b)
     fold-choice (s.Down' n a m b) = two-same (λ r q. Select-F.Down r q) (fold-one a) (fold-one b)
 
-    fold-selects : {n : _} (r : Row_of-Select n) → map step_choice (map step_shown (fold_selects Walk WalkStep (walk_step names) walk_select_step r)) ≡ fold_selects Reading Choice
+    fold-selects : {n : _} (r : Row_of-Select n) → map step_choice
+        (map step_shown (fold_selects Walk WalkStep (walk_step names) walk_select_step r)) ≡ fold_selects Reading Choice
         (read_step names) choice r
     fold-selects end_of-Select = refl
     fold-selects (more_of-Select x xs) = two-same (λ r rs. r ∷ rs) (fold-choice x) (fold-selects xs)

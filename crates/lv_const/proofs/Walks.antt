@@ -69,4 +69,19 @@ module _ (names : Names) where
   unfolding walk walk_select
   select-Down a b = fold.fold_select-Down Walk WalkStep (walk_step names) walk_select_step a b
 
-pub ruleset walk_rules = (walk-Lit, walk-Name, walk-Un, walk-Bin, walk-Div, walk-Rem, walk-Cond, walk-Cat, walk-Rep, walk-Cast, select-Bit, select-Part, select-Up, select-Down)
+pub ruleset walk_rules = (
+  walk-Lit,
+  walk-Name,
+  walk-Un,
+  walk-Bin,
+  walk-Div,
+  walk-Rem,
+  walk-Cond,
+  walk-Cat,
+  walk-Rep,
+  walk-Cast,
+  select-Bit,
+  select-Part,
+  select-Up,
+  select-Down,
+)

@@ -1,7 +1,7 @@
 -- What the entries of a list of constants say of names.
 use Rattle.std.specs.Prelude.{true, if◌then◌else◌, List, reverse, bytes_eq, Option, Some, None, find}
 use Rattle.lv_ast.specs.Names.{Name, has_no_steps}
-use Rattle.lv_source.specs.Names.{Bounds, Names, Constant, Declared}
+use Rattle.lv_source.specs.Names.{Bounds, Names, Constant, Declared, Here}
 use Rattle.lv_const.specs.declared.constant.Const.{Const}
 use Rattle.lv_const.specs.declared.consts.Entry.{Entry}
 
@@ -34,3 +34,7 @@ declared_of name (Some c) = Some (constant_of name c)
 -- the names that have a value
 abbrev pub names_of : List Entry → Names
 names_of es p = if has_no_steps p then declared_of p.name (value_in es p.name) else None
+
+-- they alone, as a place where all of them are declared before
+abbrev pub entries_here : List Entry → Here
+entries_here es = record { names = names_of es; early = λ p. true }

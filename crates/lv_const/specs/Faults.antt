@@ -1,25 +1,27 @@
--- What can be wrong at a node of a constant expression, by the width and the sign that reach it.
-use Rattle.std.specs.Prelude.{Bool, true, false, if◌then◌else◌, List, [], ◌∷◌, ◌++◌, map, Option, Some, None}
+-- What can be wrong at a node of a constant expression, by the width and the sign that reach it, where some constants are declared before.
+use Rattle.std.specs.Prelude.{ℕ, Bool, true, false, if◌then◌else◌, List, [], ◌∷◌, ◌++◌, map}
+use Rattle.lv_ast.specs.declared.expr.Path.{Path}
 use Rattle.lv_ast.specs.declared.expr.Expr.TheOpen.{Expr-F}
 use Rattle.lv_const.specs.declared.error.ConstError.{ConstError}
 use Rattle.lv_const.specs.declared.error.ConstError.TheVariants as x
-use Rattle.lv_source.specs.Names.{Declared}
 use Rattle.lv_source.specs.Sites.{Site}
-use Rattle.lv_source.specs.NodeRules.{zero_divisor, out_of_range}
+use Rattle.lv_source.specs.NodeRules.{is_early, unknown_name, unfixed_division, zero_divisor, out_of_range}
 
-abbrev pub is_known : Option Declared → Bool
-is_known None = false
-is_known (Some d) = true
+-- a name that stands for no constant, or for one that is declared later
+abbrev pub no_value : (Path → Bool) → Site → List ℕ
+no_value early s = elim s.node [ Expr-F.Name path ss ↦ if is_early (early path) (s.names path) then [] else path.place ∷ [] | _ ↦ [] ]
 
--- a name that stands for no constant
-abbrev pub no_value : Site → List ConstError
-no_value s = elim s.node [ Expr-F.Name path ss ↦ if is_known (s.names path) then [] else x.NoValue path.place ∷ [] | _ ↦ [] ]
+-- a division that reads a signal
+abbrev pub unfixed : Site → List ℕ
+unfixed s = elim s.node [ Expr-F.Div a b ↦ unfixed_division a b | Expr-F.Rem a b ↦ unfixed_division a b | _ ↦ [] ]
 
-abbrev pub form_faults : Site → List ConstError
-form_faults s = no_value s ++ map x.Range (out_of_range s)
+-- whatever hinders an own width
+abbrev pub form_faults : (Path → Bool) → Site → List ℕ
+form_faults early s = no_value early s ++ unknown_name s ++ unfixed s ++ out_of_range s
 
-abbrev pub zero_faults : Site → List ConstError
-zero_faults s = map x.ZeroDivisor (zero_divisor s)
+-- what is told
+abbrev pub told_faults : (Path → Bool) → Site → List ConstError
+told_faults early s = map x.NoValue (no_value early s) ++ map x.Range (out_of_range s)
 
-abbrev pub all_faults : Site → List ConstError
-all_faults s = form_faults s ++ zero_faults s
+abbrev pub all_faults : (Path → Bool) → Site → List ConstError
+all_faults early s = told_faults early s ++ map x.ZeroDivisor (zero_divisor s)

@@ -68,7 +68,8 @@ repeated_own place (Ok count) (Ok total) = if is_count count then of_width place
 
 abbrev pub literal_own : Literal → Bool → Owned
 literal_own l joined =
-    if is_width (size_of l.size) && not (is_literal_fault (read_role joined) l) then Ok (record { width = size_of l.size; signed = l.signed }) else Err (Range l.place)
+    if is_width (size_of l.size) && not (is_literal_fault (read_role joined) l) then Ok (record { width = size_of l.size; signed = l.signed }) else Err
+    (Range l.place)
 
 -- ---- values
 
@@ -141,11 +142,13 @@ compared op (Ok p) = Ok (record { word = binary_of op p.signed p.left p.right; s
 
 abbrev pub divided : ℕ → Paired → Valued
 divided place (Err x) = Err x
-divided place (Ok p) = if p.right.value == 0 then Err (ZeroDivisor place) else Ok (full p.left.width p.signed (quotient p.signed p.left.width p.left.value p.right.value))
+divided place (Ok p) = if p.right.value == 0 then Err (ZeroDivisor place) else Ok
+    (full p.left.width p.signed (quotient p.signed p.left.width p.left.value p.right.value))
 
 abbrev pub remains : ℕ → Paired → Valued
 remains place (Err x) = Err x
-remains place (Ok p) = if p.right.value == 0 then Err (ZeroDivisor place) else Ok (full p.left.width p.signed (remainder p.signed p.left.width p.left.value p.right.value))
+remains place (Ok p) = if p.right.value == 0 then Err (ZeroDivisor place) else Ok
+    (full p.left.width p.signed (remainder p.signed p.left.width p.left.value p.right.value))
 
 abbrev pub chosen : Valued → Paired → Valued
 chosen (Err x) p = Err x
@@ -164,7 +167,8 @@ abbrev pub repeated_full : ℕ → Valued → Result Bits ConstError → Valued
 repeated_full place (Err x) word = Err x
 repeated_full place (Ok count) (Err x) = Err x
 repeated_full place (Ok count) (Ok word) =
-    if is_count count && is_width (count.word.value * word.width) then Ok (full (count.word.value * word.width) false (repeated count.word.value word.width word.value)) else Err (Range place)
+    if is_count count && is_width (count.word.value * word.width) then Ok
+    (full (count.word.value * word.width) false (repeated count.word.value word.width word.value)) else Err (Range place)
 
 -- one more operand behind the words so far
 abbrev pub appended : ℕ → Option Bits → Valued → Result Bits ConstError

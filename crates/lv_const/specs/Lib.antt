@@ -5,5 +5,7 @@ pub mod Joins
 pub mod Picks
 pub mod Places
 pub mod Public
+pub mod Refusals
 pub mod Signs
+pub mod Wherever
 pub mod Widths

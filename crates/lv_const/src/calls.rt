@@ -1,6 +1,7 @@
 ghost use Rattle.std.specs.Prelude.{◌≡◌, ◌≤◌};
 ghost use Rattle.lv_source.specs.Meaning.{own_width};
 ghost use Rattle.lv_const.specs.Constants.{names_of};
+ghost use Rattle.lv_const.specs.Wherever.{Wherever};
 ghost use Rattle.lv_const.specs.Public.{IsOwnAnswer, IsValueAnswer};
 
 use crate::consts::Consts;
@@ -10,9 +11,10 @@ use crate::full::Reach;
 use lv_ast::Expr;
 use lv_bits::Word;
 
-/// The own width and own type of a constant expression. It takes no memory.
+/// The own width and own type of a constant expression (IEEE 1364-2005, sections 5.4.1 and 5.5.1), wherever these are the
+/// constants that are declared before. It takes no memory.
 pub fn own_of(consts: &Consts, expr: &Expr) -> Result<(u32, bool), ConstError>
-    ensures { IsOwnAnswer (names_of consts.now) expr.now result }
+    ensures { Wherever (names_of consts.now) (λ here. IsOwnAnswer here expr.now result) }
 {
     match own(consts, expr, false) {
         Err(error) => Err(error),
@@ -20,12 +22,13 @@ pub fn own_of(consts: &Consts, expr: &Expr) -> Result<(u32, bool), ConstError>
     }
 }
 
-/// The value of a constant expression at a width and a type. It takes no memory.
+/// The value of a constant expression at a width and a type (IEEE 1364-2005, section 5.4.2), wherever these are the constants
+/// that are declared before. It takes no memory.
 pub fn value_of(consts: &Consts, expr: &Expr, width: u32, signed: bool) -> Result<Word, ConstError>
     requires some { 1 ≤ width }
     requires most { width ≤ 128 }
     requires wide { own_width (names_of consts.now) expr.now ≤ width }
-    ensures { IsValueAnswer (names_of consts.now) expr.now width signed result }
+    ensures { Wherever (names_of consts.now) (λ here. IsValueAnswer here expr.now width signed result) }
 {
     let reach = Reach {
         least: width,

@@ -1,6 +1,7 @@
 ghost use Rattle.std.specs.Prelude.{◌≡◌, ◌≤◌, map, false};
 ghost use Rattle.lv_source.specs.Sites.{walk, walk_select};
 ghost use Rattle.lv_const.specs.Constants.{names_of, declared_of};
+ghost use Rattle.lv_const.specs.Wherever.{Wherever};
 ghost use Rattle.lv_const.specs.Answers.{IsOwn, IsFull, IsReached, IsPair, AreWidths, IsJoint, IsOwnPick, IsFullPick};
 
 use crate::constant::Const;
@@ -39,7 +40,7 @@ fn constant(consts: &Consts, path: &Path) -> Option<Const>
 /// The own width and own type.
 #[cycle(constants)]
 pub fn own(consts: &Consts, expr: &Expr, joined: bool) -> Result<Own, ConstError>
-    ensures { IsOwn (walk (names_of consts.now) expr.now) joined result }
+    ensures { Wherever (names_of consts.now) (λ here. IsOwn here.early (walk here.names expr.now) joined result) }
 {
     match expr {
         Expr::Lit(literal) => literal_own(literal, joined),
@@ -78,7 +79,7 @@ pub fn own(consts: &Consts, expr: &Expr, joined: bool) -> Result<Own, ConstError
 /// The widths of operands together.
 #[cycle(constants)]
 fn widths(consts: &Consts, exprs: &[Expr]) -> Result<u128, ConstError>
-    ensures { AreWidths (map (walk (names_of consts.now)) exprs.now) result }
+    ensures { Wherever (names_of consts.now) (λ here. AreWidths here.early (map (walk here.names) exprs.now) result) }
 {
     let mut total = 0u128;
     for expr in exprs {
@@ -98,7 +99,8 @@ fn own_pick(
     constant: &Const,
     selects: &[Select],
 ) -> Result<Own, ConstError>
-    ensures { IsOwnPick (names_of consts.now) path.now constant.now (map (walk_select (names_of consts.now)) selects.now) result }
+    ensures { Wherever (names_of consts.now) (λ here.
+        IsOwnPick here.early here.names path.now constant.now (map (walk_select here.names) selects.now) result) }
 {
     if selects.len() == 0 {
         return Ok(whole_own(*constant));
@@ -128,7 +130,7 @@ fn own_pick(
 #[cycle(constants)]
 pub fn value(consts: &Consts, expr: &Expr, joined: bool, reach: Reach) -> Result<Full, ConstError>
     requires { reach.least ≤ 128 }
-    ensures { IsReached (walk (names_of consts.now) expr.now) joined reach result }
+    ensures { Wherever (names_of consts.now) (λ here. IsReached here.early (walk here.names expr.now) joined reach result) }
 {
     match expr {
         Expr::Lit(literal) => placed(reach, literal_full(literal, joined)),
@@ -195,7 +197,7 @@ pub fn value(consts: &Consts, expr: &Expr, joined: bool, reach: Reach) -> Result
 /// An operand at its own width and type.
 #[cycle(constants)]
 fn full(consts: &Consts, expr: &Boxed<Expr>) -> Result<Full, ConstError>
-    ensures { IsFull (walk (names_of consts.now) expr.now) false result }
+    ensures { Wherever (names_of consts.now) (λ here. IsFull here.early (walk here.names expr.now) false result) }
 {
     value(consts, expr.get(), false, alone())
 }
@@ -204,7 +206,7 @@ fn full(consts: &Consts, expr: &Boxed<Expr>) -> Result<Full, ConstError>
 #[cycle(constants)]
 fn pair(consts: &Consts, a: &Boxed<Expr>, b: &Boxed<Expr>, reach: Reach) -> Result<Pair, ConstError>
     requires { reach.least ≤ 128 }
-    ensures { IsPair (walk (names_of consts.now) a.now) (walk (names_of consts.now) b.now) reach result }
+    ensures { Wherever (names_of consts.now) (λ here. IsPair here.early (walk here.names a.now) (walk here.names b.now) reach result) }
 {
     if weight(a.get()) < weight(b.get()) {
         match own(consts, a.get(), false) {
@@ -234,7 +236,7 @@ fn pair(consts: &Consts, a: &Boxed<Expr>, b: &Boxed<Expr>, reach: Reach) -> Resu
 /// The words of operands in one, at most 128 bits.
 #[cycle(constants)]
 fn values(consts: &Consts, exprs: &[Expr], place: u64) -> Result<Word, ConstError>
-    ensures { IsJoint (map (walk (names_of consts.now)) exprs.now) place result }
+    ensures { Wherever (names_of consts.now) (λ here. IsJoint here.early (map (walk here.names) exprs.now) place result) }
 {
     let mut joint = None;
     for expr in exprs {
@@ -258,7 +260,8 @@ fn value_pick(
     constant: &Const,
     selects: &[Select],
 ) -> Result<Full, ConstError>
-    ensures { IsFullPick (names_of consts.now) path.now constant.now (map (walk_select (names_of consts.now)) selects.now) result }
+    ensures { Wherever (names_of consts.now) (λ here.
+        IsFullPick here.early here.names path.now constant.now (map (walk_select here.names) selects.now) result) }
 {
     if selects.len() == 0 {
         return Ok(whole_full(*constant));

@@ -1,4 +1,4 @@
-ghost use Rattle.std.specs.Prelude.{◌≡◌, ◌≤◌};
+ghost use Rattle.std.specs.Prelude.{◌≡◌, ◌≤◌, max};
 ghost use Rattle.lv_const.specs.Joins.{placed};
 ghost use Rattle.lv_const.specs.Joins.{alone as reach_alone, held as reach_held, spread as reach_spread};
 
@@ -34,7 +34,9 @@ pub fn alone() -> Reach
 
 /// What reaches the second of two operands, the first of which has this width and type of its own.
 pub fn spread(reach: Reach, first: Own) -> Reach
-    ensures { result ≡ reach_spread reach first }
+    requires { max first.width reach.least ≤ 128 }
+    ensures is { result ≡ reach_spread reach first }
+    ensures most { result.least ≤ 128 }
 {
     Reach {
         least: first.width.max(reach.least),

@@ -7,6 +7,7 @@ mod consts;
 mod error;
 mod expr;
 mod full;
+mod laws;
 mod own;
 mod pair;
 mod picks;
@@ -19,3 +20,7 @@ pub use calls::{own_of, value_of};
 pub use constant::Const;
 pub use consts::{Consts, Entry};
 pub use error::ConstError;
+pub use laws::{
+    entries_are_a_place, own_answers_have_no_faults, own_refusals_are_faults,
+    value_answers_have_no_faults, value_refusals_are_faults,
+};

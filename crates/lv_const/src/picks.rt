@@ -1,9 +1,9 @@
-ghost use Rattle.std.specs.Prelude.{◌≡◌, ◌≤◌, ◌<◌, ◌^◌, map, reverse};
+ghost use Rattle.std.specs.Prelude.{◌≡◌, ◌≤◌, ◌<◌, ◌^◌, map, min, reverse, IfOk};
 ghost use Rattle.std.specs.List.{range_with_len};
 ghost use Rattle.lv_source.specs.NodeRules.{is_in_order};
 ghost use Rattle.lv_source.specs.Places.{read_bits};
 ghost use Rattle.lv_const.specs.Constants.{bounds_of};
-ghost use Rattle.lv_const.specs.Picks.{bit_own, part_own, run_own, whole_own, bit_full, part_full, up_full, down_full, whole_full, is_place, number_at, nearby, place_bit, near_place, near_run, IsSized};
+ghost use Rattle.lv_const.specs.Picks.{bit_own, part_bits, run_bits, part_own, run_own, whole_own, bit_full, part_full, up_full, down_full, whole_full, is_place, number_at, nearby, place_bit, near_place, near_run, IsSized};
 
 use crate::constant::Const;
 use crate::error::ConstError;
@@ -49,6 +49,38 @@ fn is_in_order(constant: &Const, from: u128, to: u128) -> bool
     }
 }
 
+/// How many bits a part select takes.
+fn part_bits(constant: &Const, place: u64, from: Full, to: Full) -> Result<u32, ConstError>
+    ensures is { result ≡ part_bits (bounds_of constant.now) place from to }
+    ensures some { IfOk result (λ n. 1 ≤ n) }
+    ensures most { IfOk result (λ n. n ≤ 128) }
+    ensures low { IfOk result (λ n. min from.word.value to.word.value ≤ 65535) }
+{
+    let (left, right) = (from.word.value(), to.word.value());
+    if !is_place(from) || !is_place(to) || !is_in_order(constant, left, right) {
+        return Err(ConstError::Range(place));
+    }
+    let count = left.max(right) - left.min(right) + 1;
+    if is_width(count) {
+        Ok(count as u32)
+    } else {
+        Err(ConstError::Range(place))
+    }
+}
+
+/// How many bits a select with this width takes.
+fn run_bits(place: u64, width: Full) -> Result<u32, ConstError>
+    ensures is { result ≡ run_bits place width }
+    ensures some { IfOk result (λ n. 1 ≤ n) }
+    ensures most { IfOk result (λ n. n ≤ 128) }
+{
+    if is_width(width.word.value()) && is_count(width) {
+        Ok(width.word.value() as u32)
+    } else {
+        Err(ConstError::Range(place))
+    }
+}
+
 pub fn part_own(
     constant: &Const,
     place: u64,
@@ -58,20 +90,11 @@ pub fn part_own(
     ensures { result ≡ part_own constant.now place from to }
 {
     let from = from?;
-    let to = to?;
-    let (left, right) = (from.word.value(), to.word.value());
-    if !is_place(from) || !is_place(to) || !is_in_order(constant, left, right) {
-        return Err(ConstError::Range(place));
-    }
-    let count = left.max(right) - left.min(right) + 1;
-    if is_width(count) {
-        Ok(Own {
-            width: count as u32,
-            signed: false,
-        })
-    } else {
-        Err(ConstError::Range(place))
-    }
+    let width = part_bits(constant, place, from, to?)?;
+    Ok(Own {
+        width,
+        signed: false,
+    })
 }
 
 pub fn run_own(
@@ -82,15 +105,11 @@ pub fn run_own(
     ensures { result ≡ run_own place from count }
 {
     let _ = from?;
-    let count = count?;
-    if is_width(count.word.value()) && is_count(count) {
-        Ok(Own {
-            width: count.word.value() as u32,
-            signed: false,
-        })
-    } else {
-        Err(ConstError::Range(place))
-    }
+    let width = run_bits(place, count?)?;
+    Ok(Own {
+        width,
+        signed: false,
+    })
 }
 
 /// The number that an index stands for, 2048 higher. One that is far from all bounds comes nearer, and stays outside.
@@ -201,17 +220,9 @@ pub fn part_full(
 {
     let from = from?;
     let to = to?;
-    let (left, right) = (from.word.value(), to.word.value());
-    if !is_place(from) || !is_place(to) || !is_in_order(constant, left, right) {
-        return Err(ConstError::Range(place));
-    }
-    let count = left.max(right) - left.min(right) + 1;
-    if is_width(count) {
-        let lowest = left.min(right) as u32 + 2048;
-        Ok(run(constant, lowest, count as u32))
-    } else {
-        Err(ConstError::Range(place))
-    }
+    let bits = part_bits(constant, place, from, to)?;
+    let lowest = from.word.value().min(to.word.value()) as u32 + 2048;
+    Ok(run(constant, lowest, bits))
 }
 
 #[tactic(auto, using(crate::proofs::Runs::run_rules))]
@@ -224,12 +235,8 @@ pub fn up_full(
     ensures { result ≡ up_full constant.now place from count }
 {
     let from = from?;
-    let count = count?;
-    if is_width(count.word.value()) && is_count(count) {
-        Ok(run(constant, nearby(from), count.word.value() as u32))
-    } else {
-        Err(ConstError::Range(place))
-    }
+    let bits = run_bits(place, count?)?;
+    Ok(run(constant, nearby(from), bits))
 }
 
 #[tactic(auto, using(crate::proofs::Runs::run_rules))]
@@ -242,11 +249,6 @@ pub fn down_full(
     ensures { result ≡ down_full constant.now place from count }
 {
     let from = from?;
-    let count = count?;
-    if is_width(count.word.value()) && is_count(count) {
-        let bits = count.word.value() as u32;
-        Ok(run(constant, nearby(from) - (bits - 1), bits))
-    } else {
-        Err(ConstError::Range(place))
-    }
+    let bits = run_bits(place, count?)?;
+    Ok(run(constant, nearby(from) - (bits - 1), bits))
 }

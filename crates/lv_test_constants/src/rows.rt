@@ -96,7 +96,7 @@ fn told(
     answer(alloc, consts, &expr, width, signed)
 }
 
-const ROWS: [(&str, u32, bool, &str); 96] = [
+const ROWS: [(&str, u32, bool, &str); 114] = [
     ("- 4'd12", 4, false, "4 u 4"),
     ("~ 4'd12", 4, false, "4 u 3"),
     ("4'd12 + 4'd5", 4, false, "4 u 1"),
@@ -193,6 +193,24 @@ const ROWS: [(&str, u32, bool, &str); 96] = [
     ("129'd1", 8, false, "range 0"),
     ("0 && 1 / 0", 1, false, "1 u zero 9"),
     ("3 + 128'd4", 128, false, "128 u 7"),
+    ("1 ? 4'd12 : 4'd5", 4, false, "4 u 12"),
+    ("0 ? 4'd12 : 4'd5", 4, false, "4 u 5"),
+    ("1 ? 4'sd12 : 4'sd5", 8, true, "4 s 252"),
+    ("1 ? 4'sd12 : 4'd5", 8, false, "4 u 12"),
+    ("$unsigned(4'sd12)", 8, false, "4 u 12"),
+    ("$signed(4'd12)", 8, true, "4 s 252"),
+    ("- 8 / 3", 32, true, "32 s 4294967294"),
+    ("- 8 % 3", 32, true, "32 s 4294967294"),
+    ("8 % - 3", 32, true, "32 s 2"),
+    ("8'sd128 / 8'sd255", 8, true, "8 s 128"),
+    ("4'd12 + 4'd5", 8, false, "4 u 17"),
+    ("(4'd15 + 4'd1) >> 1", 4, false, "4 u 0"),
+    ("(4'd15 + 4'd1) >> 1", 8, false, "4 u 8"),
+    ("{4'd15 + 4'd1}", 8, false, "4 u 0"),
+    ("4294967295", 32, true, "32 s 4294967295"),
+    ("4294967296", 32, true, "range 0"),
+    ("a.n", 32, true, "none 0"),
+    ("{m{1'd1}}", 8, false, "none 1"),
 ];
 
 #[test]

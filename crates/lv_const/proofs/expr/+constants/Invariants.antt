@@ -1,15 +1,16 @@
 use Rattle.std.proofs.Common.{◌+◌, ◌*◌, max, take, map}
 use Rattle.lv_source.specs.Sites.{walk}
 use Rattle.lv_const.specs.Answers.{HaveWidths}
+use Rattle.lv_const.specs.Wherever.{Wherever}
 use Rattle.lv_const.specs.Constants.{names_of}
 use Rattle.lv_const.proofs.Lists.{IsSoFar}
 use Rattle.lv_const.proofs.expr.+constants.Given as goal
 
 abbrev pub invariant-values-loop-expr : goal.invariant-values-loop-expr
-invariant-values-loop-expr l = IsSoFar (map (walk (names_of l.consts)) (take l.expr-index l.exprs)) l.joint
+invariant-values-loop-expr l = Wherever (names_of l.consts) (λ here. IsSoFar here.early (map (walk here.names) (take l.expr-index l.exprs)) l.joint)
 
 abbrev pub invariant-widths-loop-expr : goal.invariant-widths-loop-expr
-invariant-widths-loop-expr l = HaveWidths (map (walk (names_of l.consts)) (take l.expr-index l.exprs)) l.total
+invariant-widths-loop-expr l = Wherever (names_of l.consts) (λ here. HaveWidths here.early (map (walk here.names) (take l.expr-index l.exprs)) l.total)
 
 abbrev pub decreases-own : goal.decreases-own
 decreases-own l = 2 * goal.size-own l

@@ -6,4 +6,5 @@ use Rattle.lv_const.specs.Picks.{near_place}
 use Rattle.lv_const.proofs.picks.falling.Given as goal
 
 abbrev pub invariant-loop-j : goal.invariant-loop-j
-invariant-loop-j l = (l.value ≡ read_bits l.constant.word.value (map (near_place (bounds_of l.constant)) (range_with_len (l.lowest + (l.count - l.j)) l.j))) × (l.value < 2 ^ l.j)
+invariant-loop-j l = (l.value ≡ read_bits l.constant.word.value (map (near_place (bounds_of l.constant)) (range_with_len (l.lowest + (l.count - l.j)) l.j))) ×
+    (l.value < 2 ^ l.j)

@@ -11,6 +11,7 @@ overflow_add-value c = omega (arith, stays c.loop-j.value c.bit_of.result c.loop
 
 pub loop-j-preserved : goal.loop-j-preserved
 loop-j-preserved c = (
-  ap (λ k. 2 * c.loop-j.value + k) c.bit_of.ensures.is ∙ rising_more c.args.constant.now.word.value c.args.lowest c.loop-j.j c.loop-j.value (bounds_of c.args.constant.now) c.loop-j.invariant.0,
+  ap (λ k. 2 * c.loop-j.value + k) c.bit_of.ensures.is ∙ rising_more c.args.constant.now.word.value c.args.lowest c.loop-j.j c.loop-j.value
+      (bounds_of c.args.constant.now) c.loop-j.invariant.0,
   grows c.loop-j.value c.bit_of.result c.loop-j.j c.loop-j.invariant.1 c.bit_of.ensures.bit,
 )

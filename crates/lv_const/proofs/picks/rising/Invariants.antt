@@ -7,4 +7,5 @@ use Rattle.lv_const.specs.Picks.{near_place}
 use Rattle.lv_const.proofs.picks.rising.Given as goal
 
 abbrev pub invariant-loop-j : goal.invariant-loop-j
-invariant-loop-j l = (l.value ≡ read_bits l.constant.word.value (reverse (map (near_place (bounds_of l.constant)) (range_with_len l.lowest l.j)))) × (l.value < 2 ^ l.j)
+invariant-loop-j l = (l.value ≡ read_bits l.constant.word.value (reverse (map (near_place (bounds_of l.constant)) (range_with_len l.lowest l.j)))) ×
+    (l.value < 2 ^ l.j)

@@ -6,4 +6,5 @@ use Rattle.lv_const.specs.Answers.{joined_places}
 use Rattle.lv_const.proofs.place.+places.Given as goal
 
 abbrev pub invariant-first_of-loop-expr : goal.invariant-first_of-loop-expr
-invariant-first_of-loop-expr l = head_of (joined_places (map (walk (names_of l.consts)) l.exprs)) ≡ head_of (joined_places (map (walk (names_of l.consts)) (drop l.expr-index l.exprs)))
+invariant-first_of-loop-expr l = head_of (joined_places (map (walk (names_of l.consts)) l.exprs)) ≡ head_of
+    (joined_places (map (walk (names_of l.consts)) (drop l.expr-index l.exprs)))

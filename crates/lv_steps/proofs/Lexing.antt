@@ -55,16 +55,16 @@ no-token s h j = elim (lt_or_le (length s) j) [
   | inr l ↦ none-within s h j l
 ]
 
-search : (s : List ℕ) (m : ℕ) → m ≤ length s → NoneAbove s m → Longest s ⊎ NoToken s
-search s zero w h = inr (no-token s h)
-search s (suc m) w h =
+look : (s : List ℕ) (m : ℕ) → m ≤ length s → NoneAbove s m → Longest s ⊎ NoToken s
+look s zero w h = inr (no-token s h)
+look s (suc m) w h =
     elim (kind_of (take (suc m) s)) as (λ o. kind_of (take (suc m) s) ≡ o → Longest s ⊎ NoToken s) [
-      | None ↦ λ e. search s m (omega (arith, w)) (one-less s m h e)
+      | None ↦ λ e. look s m (omega (arith, w)) (one-less s m h e)
       | Some k ↦ λ e. inl (record { kind = k; n = suc m; within = w; whole = e; longest = h })
     ] refl
 
 front : (s : List ℕ) → Longest s ⊎ NoToken s
-front s = search s (length s) (omega arith) (λ j above within. absurd (omega (arith, above, within)))
+front s = look s (length s) (omega arith) (λ j above within. absurd (omega (arith, above, within)))
 
 -- ---- from one place to the next
 

@@ -30,7 +30,7 @@ NoToken s = (j : ℕ) → kind_of (take j s) ≡ None
 abbrev NoneAbove : List ℕ → ℕ → Type 0
 NoneAbove s m = (j : ℕ) → m < j → j ≤ length s → kind_of (take j s) ≡ None
 
-record Longest (s : List ℕ) : Type 0 where
+record FirstToken (s : List ℕ) : Type 0 where
   kind : Kind
   n : ℕ
   within : n ≤ length s
@@ -55,15 +55,15 @@ no-token s h j = elim (lt_or_le (length s) j) [
   | inr l ↦ none-within s h j l
 ]
 
-look : (s : List ℕ) (m : ℕ) → m ≤ length s → NoneAbove s m → Longest s ⊎ NoToken s
+look : (s : List ℕ) (m : ℕ) → m ≤ length s → NoneAbove s m → FirstToken s ⊎ NoToken s
 look s zero w h = inr (no-token s h)
 look s (suc m) w h =
-    elim (kind_of (take (suc m) s)) as (λ o. kind_of (take (suc m) s) ≡ o → Longest s ⊎ NoToken s) [
+    elim (kind_of (take (suc m) s)) as (λ o. kind_of (take (suc m) s) ≡ o → FirstToken s ⊎ NoToken s) [
       | None ↦ λ e. look s m (omega (arith, w)) (one-less s m h e)
       | Some k ↦ λ e. inl (record { kind = k; n = suc m; within = w; whole = e; longest = h })
     ] refl
 
-front : (s : List ℕ) → Longest s ⊎ NoToken s
+front : (s : List ℕ) → FirstToken s ⊎ NoToken s
 front s = look s (length s) (omega arith) (λ j above within. absurd (omega (arith, above, within)))
 
 -- ---- from one place to the next

@@ -51,12 +51,12 @@ folds_total x =
 source_total : GrammarAnswers → IsTotal reads_source
 source_total grammar text = elim (lexes_total text) [
   | inl h ↦ elim (folds_total h.0) [
-      | inl k ↦ elim (grammar text h.0 k.0 h.1 k.1) [
-          | inl z ↦ inl (z.0, (h.0, h.1, (k.0, k.1, z.1)))
-          | inr r ↦ inr (r.0, inr (h.0, h.1, inr (k.0, k.1, r.1)), r.2)
-        ]
-      | inr r ↦ inr (r.0, inr (h.0, h.1, inl r.1), r.2)
+    | inl k ↦ elim (grammar text h.0 k.0 h.1 k.1) [
+      | inl z ↦ inl (z.0, (h.0, h.1, (k.0, k.1, z.1)))
+      | inr r ↦ inr (r.0, inr (h.0, h.1, inr (k.0, k.1, r.1)), r.2)
     ]
+    | inr r ↦ inr (r.0, inr (h.0, h.1, inl r.1), r.2)
+  ]
   | inr r ↦ inr (r.0, inl r.1, r.2)
 ]
 
@@ -112,9 +112,9 @@ module _ (limits : Limits) (need : Need) (before after : ShelfState) (files : Fi
   all (name ∷ names) = elim (file name) [
     | inr r ↦ inr (r.0, unread_later limits.file (Named name) (Next (name ∷ names)) before before after r.0 stays (first-next name names) r.1, r.2)
     | inl h ↦ elim (all names) [
-        | inl k ↦ inl (h.0 ∷ k.0, (h.1, k.1))
-        | inr r ↦ inr (r.0, unread_later limits.file (Next names) (Next (name ∷ names)) before before after r.0 stays (later-next name h.0 names h.1) r.1, r.2)
-      ]
+      | inl k ↦ inl (h.0 ∷ k.0, (h.1, k.1))
+      | inr r ↦ inr (r.0, unread_later limits.file (Next names) (Next (name ∷ names)) before before after r.0 stays (later-next name h.0 names h.1) r.1, r.2)
+    ]
   ]
 
   files_total : IsTotal (reads_files limits before after)

@@ -31,7 +31,7 @@ use Rattle.lv_contract.specs.Named.{texts, PortTexts, port_texts, Pair, pair_of,
 use Rattle.lv_contract.specs.Parts.{port_in, in_format, part_in, part_of, StandsAt, IsUnknownFault, IsKeyFault, IsPartFault}
 use Rattle.lv_contract.specs.Says.{port_at, ports_at, Says, SaysSimulation, SaysTable, IsDocument, IsContractIn, IsContractFile}
 use Rattle.lv_contract.specs.Refusals.{IsFault, IsFaultOf, IsFaultInPart, HasUnequalPorts, IsRefusal}
-use Rattle.lv_contract.proofs.Kept.{part_is, one_or_two}
+use Rattle.lv_contract.proofs.Kept.{numbered, part_is, one_or_two}
 use Rattle.lv_contract.proofs.Counts.{counts_ports, counts_tables}
 use Rattle.lv_contract.proofs.Elements.{passes_at}
 
@@ -261,19 +261,19 @@ abbrev PartSpelled : Level → ℕ → Members → Type 0
 PartSpelled level n part = AllByRecursion (AllSpelled n part) (keys_of level)
 
 in-first : (ms : Members) (c : Contract) → Says ms c → map port_texts c.ports ≡ ports_at 1 ms → (level : Level) (n : ℕ) (part : Members) → part_in 1 level n ms ≡ Some part → PartSpelled level n part
-in-first ms c h e l.First n part s = subst (PartSpelled l.First n) (some-is ms part s) (first-part ms c h e n)
-in-first ms c h e l.Second n part s = absurd (none-some part s)
-in-first ms c h e l.Initial n part s = initial-part ms c h n part s
-in-first ms c h e l.Candidates n part s = candidates-part ms c h n part s
-in-first ms c h e l.Simulation n part s = table-says (table_at k.Simulation ms) c.sim part s h.sim n
+in-first ms c h e l.First n part s = subst (PartSpelled l.First n) (some-is ms part (numbered n (Some ms) part s)) (first-part ms c h e n)
+in-first ms c h e l.Second n part s = absurd (none-some part (numbered n None part s))
+in-first ms c h e l.Initial n part s = initial-part ms c h n part (numbered n (table_at k.Initial ms) part s)
+in-first ms c h e l.Candidates n part s = candidates-part ms c h n part (numbered n (table_at k.Candidates ms) part s)
+in-first ms c h e l.Simulation n part s = table-says (table_at k.Simulation ms) c.sim part (numbered n (table_at k.Simulation ms) part s) h.sim n
 in-first ms c h e l.Port n part s = absurd (none-some part s)
 
 in-second : (ms : Members) (c : Contract) → Says ms c → map port_texts c.ports ≡ ports_at 2 ms → (level : Level) (n : ℕ) (part : Members) → part_in 2 level n ms ≡ Some part → PartSpelled level n part
-in-second ms c h e l.First n part s = absurd (none-some part s)
-in-second ms c h e l.Second n part s = subst (PartSpelled l.Second n) (some-is ms part s) (second-part ms c h n)
-in-second ms c h e l.Initial n part s = initial-part ms c h n part s
-in-second ms c h e l.Candidates n part s = candidates-part ms c h n part s
-in-second ms c h e l.Simulation n part s = table-says (table_at k.Simulation ms) c.sim part s h.sim n
+in-second ms c h e l.First n part s = absurd (none-some part (numbered n None part s))
+in-second ms c h e l.Second n part s = subst (PartSpelled l.Second n) (some-is ms part (numbered n (Some ms) part s)) (second-part ms c h n)
+in-second ms c h e l.Initial n part s = initial-part ms c h n part (numbered n (table_at k.Initial ms) part s)
+in-second ms c h e l.Candidates n part s = candidates-part ms c h n part (numbered n (table_at k.Candidates ms) part s)
+in-second ms c h e l.Simulation n part s = table-says (table_at k.Simulation ms) c.sim part (numbered n (table_at k.Simulation ms) part s) h.sim n
 in-second ms c h e l.Port n part s = port-part ms c e n part s
 
 each-part : (ms : Members) (c : Contract) → Says ms c → (c.format ≡ 1) ⊎ (c.format ≡ 2) → (level : Level) (n : ℕ) (part : Members) → part_in c.format level n ms ≡ Some part → PartSpelled level n part

@@ -21,11 +21,11 @@ use Rattle.lv_exprs.proofs.Unique.{one_form}
 use Rattle.lv_lexer.specs.declared.error.LexError.{LexError}
 use Rattle.lv_lexer.specs.declared.error.LexError.TheVariants.{BadByte, BadLiteral, Unclosed, TooMany, NoMemory}
 use Rattle.lv_lexer.specs.Refusals.{IsLexRefusal}
+use Rattle.lv_lexer.proofs.Refused.{no_refusal}
 use Rattle.lv_lexer.proofs.Unique.{one_token_list}
 use Rattle.lv_lexer.proofs.Stands.{some-same}
 use Rattle.lv_contract.specs.Expressions.{AreTokens, IsExpression, IsNoExpression, IsByteOf, unlexed_at, ends_at, too_high_at, free_at, length_at, IsPlace, number_in, place_of, start_or, free_place, IsUnreadAt}
 use Rattle.lv_contract.specs.Expressions.{unlexed as answer}
-use Rattle.lv_contract.proofs.Reached.{no_bad_byte, no_bad_literal, no_unclosed, no_more}
 
 -- ---- literals with free bits
 
@@ -239,11 +239,10 @@ module _ (text : List ℕ) (tokens : List Token) (lexed : AreTokens text tokens)
 -- ---- refusals of `lex`
 
 no-text : (text : List ℕ) (error : LexError) (n : ℕ) → IsLexRefusal text error → number_in error ≡ Some n → (x : Expr) → IsExpression text x → ⊥
-no-text text (BadByte p) n r carried x h = no_bad_byte text h.tokens p h.spelled.lexed.list r
-no-text text (BadLiteral p) n r carried x h = no_bad_literal text h.tokens p h.spelled.lexed.list h.spelled.lexed.whole r
-no-text text (Unclosed p) n r carried x h = no_unclosed text h.tokens p h.spelled.lexed.list r
-no-text text (TooMany m) n r carried x h = no_more text h.tokens 500000 h.spelled.lexed.list h.spelled.lexed.few r.1
-no-text text NoMemory n r carried x h = none-some n carried
+no-text text error n r carried x h =
+    let lexed = h.spelled.lexed in
+    let none : error ≡ NoMemory = no_refusal text h.tokens (record { list = lexed.list; whole = lexed.whole; few = lexed.few }) error r in
+    none-some n (sym (ap number_in none) ∙ carried)
 
 no-expression : (text : List ℕ) (error : LexError) (n : ℕ) → IsLexRefusal text error → number_in error ≡ Some n → IsNoExpression text n
 no-expression text error n r carried = record { none = no-text text error n r carried; at = unlexed_at (record { error = error; refused = r; carried = carried }) }

@@ -13,7 +13,7 @@ use Rattle.lv_contract.specs.Keys.{kind_of, keys_of, common_keys, is_needed}
 use Rattle.lv_contract.specs.Values.{value_at, number_of, items_of, items_at, string_at, number_at, texts_in, lists_in, tables_in, texts_at, lists_at, table_at, passes, within, is_printable, is_name, is_text, is_list, is_table, all_items, count, are_texts, are_lists, are_ports, has_lists, fits, fits_row, keeps_row, keeps, knows_all}
 use Rattle.lv_contract.specs.Ranges.{in_range, in_count, is_name_or_none}
 use Rattle.lv_contract.specs.Shapes.{TextsFit, ListsFit, PortFits, EachPortFits, InitialFits, CandidatesFit, SimulationFits, PortsFit, TopFits, top_level}
-use Rattle.lv_contract.specs.Parts.{port_in, in_format, format_of, part_in, part_of}
+use Rattle.lv_contract.specs.Parts.{port_in, in_format, format_of, numbered_0, part_in, part_of}
 use Rattle.lv_contract.specs.Checks.{Keeps}
 use Rattle.lv_contract.proofs.Elements.{passes_at}
 
@@ -321,20 +321,25 @@ top_fits need format ms f h =
 
 -- ---- each table of the document keeps its rows
 
+-- a table that has a number there is that table
+pub numbered : (n : ℕ) (o : Option Members) (part : Members) → numbered_0 n o ≡ Some part → o ≡ Some part
+numbered zero o part s = s
+numbered (suc n) o part s = absurd (none-some part s)
+
 part-first : (need : Need) (ms : Members) → Keeps need 1 ms → (level : Level) (n : ℕ) (part : Members) → part_in 1 level n ms ≡ Some part → keeps need level part ≡ true
-part-first need ms h l.First n part s = subst (λ p. keeps need l.First p ≡ true) (some-members ms part s) h.top
-part-first need ms h l.Second n part s = absurd (none-some part s)
-part-first need ms h l.Initial n part s = h.initial part s
-part-first need ms h l.Candidates n part s = h.candidates part s
-part-first need ms h l.Simulation n part s = h.sim part s
+part-first need ms h l.First n part s = subst (λ p. keeps need l.First p ≡ true) (some-members ms part (numbered n (Some ms) part s)) h.top
+part-first need ms h l.Second n part s = absurd (none-some part (numbered n None part s))
+part-first need ms h l.Initial n part s = h.initial part (numbered n (table_at k.Initial ms) part s)
+part-first need ms h l.Candidates n part s = h.candidates part (numbered n (table_at k.Candidates ms) part s)
+part-first need ms h l.Simulation n part s = h.sim part (numbered n (table_at k.Simulation ms) part s)
 part-first need ms h l.Port n part s = absurd (none-some part s)
 
 part-second : (need : Need) (ms : Members) → Keeps need 2 ms → (level : Level) (n : ℕ) (part : Members) → part_in 2 level n ms ≡ Some part → keeps need level part ≡ true
-part-second need ms h l.First n part s = absurd (none-some part s)
-part-second need ms h l.Second n part s = subst (λ p. keeps need l.Second p ≡ true) (some-members ms part s) h.top
-part-second need ms h l.Initial n part s = h.initial part s
-part-second need ms h l.Candidates n part s = h.candidates part s
-part-second need ms h l.Simulation n part s = h.sim part s
+part-second need ms h l.First n part s = absurd (none-some part (numbered n None part s))
+part-second need ms h l.Second n part s = subst (λ p. keeps need l.Second p ≡ true) (some-members ms part (numbered n (Some ms) part s)) h.top
+part-second need ms h l.Initial n part s = h.initial part (numbered n (table_at k.Initial ms) part s)
+part-second need ms h l.Candidates n part s = h.candidates part (numbered n (table_at k.Candidates ms) part s)
+part-second need ms h l.Simulation n part s = h.sim part (numbered n (table_at k.Simulation ms) part s)
 part-second need ms h l.Port n part s = (h.ports refl).each n part s
 
 -- the table of a level, once the format is known

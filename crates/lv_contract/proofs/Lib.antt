@@ -6,6 +6,5 @@ pub mod Faults
 pub mod Kept
 pub mod OneContract
 pub mod Ports
-pub mod Reached
 pub mod Spelling
 pub mod Views

@@ -1,5 +1,5 @@
 -- The tables of a document, and what may be wrong in one of them.
-use Rattle.std.specs.Prelude.{◌≡◌, ℕ, ◌+◌, ◌*◌, true, false, ◌==◌, List, ◌++◌, drop, Option, Some, None, option_and_then, if◌then◌else◌, Contains, ◌⊎◌, slice_get}
+use Rattle.std.specs.Prelude.{◌≡◌, ℕ, zero, suc, ◌+◌, ◌*◌, true, false, ◌==◌, List, ◌++◌, drop, Option, Some, None, option_and_then, if◌then◌else◌, Contains, ◌⊎◌, slice_get}
 use Rattle.toml.specs.Data.{Data, Items, Members, as_table, get_item}
 use Rattle.lv_contract.specs.declared.key.Key.{Key}
 use Rattle.lv_contract.specs.declared.key.Key.TheVariants as k
@@ -27,13 +27,18 @@ format_of ms = option_and_then in_format (option_and_then number_of (value_at k.
 abbrev pub port_in : ℕ → Items → Option Members
 port_in n ds = option_and_then as_table (get_item n ds)
 
--- the table of a level, of the port with number n where it is a port's; none where `format` is refused
+-- a table that is no port's has the number 0 alone
+abbrev pub numbered_0 : ℕ → Option Members → Option Members
+numbered_0 zero o = o
+numbered_0 (suc n) o = None
+
+-- the table of a level with its number, which is the port's where it is a port's; none where `format` is refused
 abbrev pub part_in : ℕ → Level → ℕ → Members → Option Members
-part_in format l.First n ms = if format == 1 then Some ms else None
-part_in format l.Second n ms = if format == 2 then Some ms else None
-part_in format l.Initial n ms = table_at k.Initial ms
-part_in format l.Candidates n ms = table_at k.Candidates ms
-part_in format l.Simulation n ms = table_at k.Simulation ms
+part_in format l.First n ms = numbered_0 n (if format == 1 then Some ms else None)
+part_in format l.Second n ms = numbered_0 n (if format == 2 then Some ms else None)
+part_in format l.Initial n ms = numbered_0 n (table_at k.Initial ms)
+part_in format l.Candidates n ms = numbered_0 n (table_at k.Candidates ms)
+part_in format l.Simulation n ms = numbered_0 n (table_at k.Simulation ms)
 part_in format l.Port n ms = if format == 2 then port_in n (items_at k.Port ms) else None
 
 abbrev pub part_of : Level → ℕ → Members → Option Members
@@ -53,7 +58,7 @@ abbrev pub StandsInLists : Kind → Data → ℕ → List ℕ → Type 0
 StandsInLists kind d entry text =
     (i : ℕ) × (list : List (List ℕ)) × (slice_get (lists_in (items_of d)) i ≡ Some list) × StandsIn kind i list entry text
 
--- the text stands at the entry of a value: in port n the numbers begin at 1,024 n
+-- the text stands at the entry of a value: in the table with number n a single one has n, and the entries of a list begin at 1,024 n
 abbrev pub StandsAt : Kind → ℕ → Data → ℕ → List ℕ → Type 0
 StandsAt kind.Expression n d entry text = (entry ≡ n) × (text ≡ text_of d)
 StandsAt (kind.Expressions least) n d entry text = (i : ℕ) × (entry ≡ 1024 * n + i) × (slice_get (texts_in (items_of d)) i ≡ Some text)

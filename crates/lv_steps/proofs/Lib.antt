@@ -3,3 +3,6 @@ pub mod Chained
 pub mod Exact
 pub mod Texts
 pub mod Inputs
+pub mod Total
+pub mod Lexing
+pub mod Answered

@@ -28,10 +28,16 @@ reads_source = followed_by lexes (followed_by folds spells)
 
 module _ (limits : Limits) (before after : ShelfState) where
   abbrev pub reads_contract_file : Step (List ℕ) (List ℕ)
-  reads_contract_file = record { Passes = IsRead limits.file before.files; Refuses = λ file e. AreUnread limits.file (λ name. name ≡ file) before after e }
+  reads_contract_file = record {
+    Passes = IsRead limits.file before.files;
+    Refuses = λ file e. AreUnread limits.file (λ name. name ≡ file) before after e;
+  }
 
   abbrev pub reads_files : Step Contract (List (List ℕ))
-  reads_files = record { Passes = λ c parts. AreRead limits.file before.files c.files parts; Refuses = λ c e. AreUnread limits.file (IsNext limits.file before.files c.files) before after e }
+  reads_files = record {
+    Passes = λ c parts. AreRead limits.file before.files c.files parts;
+    Refuses = λ c e. AreUnread limits.file (IsNext limits.file before.files c.files) before after e;
+  }
 
   abbrev pub joins : Step (List (List ℕ)) (List ℕ)
   joins = record { Passes = IsJoined limits.text; Refuses = IsUnjoined limits.text }

@@ -3,3 +3,4 @@ pub mod Files
 pub mod Texts
 pub mod Chain
 pub mod Exact
+pub mod Total

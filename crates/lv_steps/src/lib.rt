@@ -11,4 +11,4 @@ mod laws;
 pub use ended::{Ended, Unread};
 pub use files::Limits;
 pub use input::{Input, read_input};
-pub use laws::steps_are_exact;
+pub use laws::{steps_are_exact, steps_are_total};

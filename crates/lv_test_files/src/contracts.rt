@@ -148,6 +148,7 @@ expr retire 0 3|retire = "r"|retire = "a +"
 expr retire 0 1|retire = "r"|retire = " 4'b1?"
 expr retire 0 2|retire = "r"|retire = "(4'b1?)"
 expr contract 1 1|contract = ["c", "d"]|contract = ["c", "+"]
+expr attacker 0 1|attacker = ["a"]|attacker = ["+"]
 expr attacker 1 0|attacker = ["a"]|attacker = ["a", ""]
 expr assume 0 0|lookahead = 0|lookahead = 0@assume = [")"]
 expr initial.each 0 2|each = ["f"]|each = ["f ]"]
@@ -175,6 +176,7 @@ key port.retire|retire = "!m"@|
 value port.retire|retire = "!m"|retire = 1
 value port.contract|contract = ["k"]|contract = "k"
 value format|format = 2|format = 3
+expr attacker 0 1|attacker = ["y"]|attacker = ["+"]
 expr port.retire 1 1|retire = "!m"|retire = "!"
 expr port.contract 0 1|contract = ["k"]|contract = ["-"]
 expr port.contract 1024 0|contract = ["l"]|contract = ["*"]"#

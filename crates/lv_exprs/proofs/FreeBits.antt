@@ -166,6 +166,7 @@ too_high_definite ts k h = record {
     | inr f ↦ absurd (free_low h.alive.1 f (h.high h.alive.0 h.alive.1 (inr f) h.alive.3))
   ];
   high = λ more x d e. h.high more x (inl d) e;
+  before = h.before;
 }
 
 -- nothing goes on behind a literal with free bits

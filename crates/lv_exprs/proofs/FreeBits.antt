@@ -1,5 +1,5 @@
 -- A literal with free bits begins no expression that has a value.
-use Rattle.std.proofs.Common.{◌≡◌, ℕ, zero, suc, ◌+◌, ◌≤◌, ◌<◌, List, [], ◌∷◌, ◌++◌, Bool, true, false, length, take, refl, ap, sym, subst, ◌∙◌, arith, append_assoc, append-nil, nat_lt, inl, inr, ◌⊎◌}
+use Rattle.std.proofs.Common.{◌≡◌, ℕ, zero, suc, ◌+◌, ◌≤◌, ◌<◌, List, [], ◌∷◌, ◌++◌, Bool, true, false, length, take, refl, ap, sym, subst, ◌∙◌, arith, append-nil, inl, inr}
 use Rattle.lv_exprs.specs.declared.symbol.Number.{Number}
 use Rattle.lv_exprs.specs.declared.symbol.Based.{Based}
 use Rattle.lv_exprs.specs.declared.symbol.Symbol.{Symbol}

@@ -6,7 +6,7 @@ use Rattle.lv_exprs.specs.declared.symbol.Divider.TheVariants as d
 use Rattle.lv_exprs.specs.declared.symbol.Symbol.{Symbol}
 use Rattle.lv_exprs.specs.declared.symbol.Symbol.TheVariants as t
 use Rattle.lv_exprs.specs.Levels.{level, leads, weight}
-use Rattle.lv_exprs.specs.Forms.{Form, plain, based, sized, name, dot, bit, part, prefix, binary, choice, paren, pair, text, rank, is_path, is_step, is_free, IsExpr}
+use Rattle.lv_exprs.specs.Forms.{Form, plain, based, sized, name, dot, bit, prefix, binary, choice, text, rank, is_path, is_step, is_free, IsExpr}
 use Rattle.lv_exprs.specs.Heights.{height}
 use Rattle.lv_exprs.specs.Machine.{Open, o_prefix, o_left, o_question, o_colon, o_paren, o_cast, o_brace, o_braces, o_repeat, o_repeats, o_index, o_part, State, want, have, casts, shut, dotted, alone, reduce, settle, pull, put_alone, want_shift, put_comma, put_divider, put_right_paren, put_right_brace, put_right_bracket, put_left_brace, put_based, have_shift, shift, Outcome, done, stop, finish, step, read, start, run}
 use Rattle.lv_exprs.specs.Lows.{over, over_all, low, index_base, number_base, bit_base, base}

@@ -1,5 +1,5 @@
 -- How high what is open is, by the operand that it holds.
-use Rattle.std.proofs.Common.{ℕ, ◌+◌, ◌≤◌, List, [], ◌∷◌, arith}
+use Rattle.std.proofs.Common.{ℕ, ◌≤◌, List, [], ◌∷◌, arith}
 use Rattle.lv_exprs.specs.Forms.{Form, bit, part, prefix, paren, pair}
 use Rattle.lv_exprs.specs.Heights.{height}
 use Rattle.lv_exprs.specs.Machine.{Open, o_prefix, o_paren}

@@ -1,5 +1,5 @@
 -- Readers of a rule, from readers of its grammar.
-use Rattle.std.proofs.Common.{◌≡◌, List, [], ◌∷◌, ◌++◌, true, false, sym, subst}
+use Rattle.std.proofs.Common.{◌≡◌, List, [], ◌∷◌, true, false, sym, subst}
 use Rattle.lv_viable.specs.Grammar.{Base, call}
 use Rattle.lv_viable.specs.Spelling.{Rules, Language, IsSpelled, allows, inner}
 use Rattle.lv_viable.specs.Nexts.{Opens}

@@ -1,10 +1,10 @@
 -- Where limits leave a grammar no tree.
-use Rattle.std.proofs.Common.{◌≡◌, List, [], ◌∷◌, ◌++◌, Bool, true, false, ◌&&◌, Option, Some, None, refl, ◌⊎◌, inl, inr}
-use Rattle.lv_viable.specs.Grammar.{Base, Gram, OneOf, left, right, none, one, leaf, call, act, both, either, perhaps, many, until, tail}
+use Rattle.std.proofs.Common.{◌≡◌, List, [], ◌∷◌, ◌++◌, Bool, true, false, ◌&&◌, Some, None, refl, ◌⊎◌, inl, inr}
+use Rattle.lv_viable.specs.Grammar.{Base, Gram, left, right, none, one, leaf, call, act, both, either, perhaps, many, until, tail}
 use Rattle.lv_viable.specs.Spelling.{Leaves, Calls, Spells, Language, called}
 use Rattle.lv_viable.specs.Sets.{has_tree_in}
 use Rattle.lv_viable.specs.Nexts.{Opens}
-use Rattle.lv_viable.specs.Reading.{Begins, Passes, PassesLimit}
+use Rattle.lv_viable.specs.Reading.{Passes, PassesLimit}
 use Rattle.lv_viable.proofs.Lists.{true_false, not_or_left, not_or_right}
 use Rattle.lv_viable.proofs.Readers.{Spelled, Absent, begun}
 use Rattle.lv_viable.proofs.Repeats.{Turn, turn, last, more, begins_more}

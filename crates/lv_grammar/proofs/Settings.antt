@@ -60,5 +60,5 @@ abbrev pub Rooms : List ℕ → (ℕ → Limit) → (Rule → Bool) → Type 0
 Rooms text d f = (r : Rule) → f r ≡ true → (us : List Lexeme) × Spelled base (within text d) (call r) us
 
 -- and a grammar of which it is computed from these
-pub has_tree : (text : List ℕ) (d : ℕ → Limit) (f : Rule → Bool) → Rooms text d f → {A : Type 0} (g : Gram base A) → has_tree_in base f g ≡ true → (us : List Lexeme) × Spelled base (within text d) g us
-has_tree text d f k g e = witness.has_tree base (within text d) shaped (low_witness text) f k g e
+pub tree_within : (text : List ℕ) (d : ℕ → Limit) (f : Rule → Bool) → Rooms text d f → {A : Type 0} (g : Gram base A) → has_tree_in base f g ≡ true → (us : List Lexeme) × Spelled base (within text d) g us
+tree_within text d f k g e = witness.has_tree base (within text d) shaped (low_witness text) f k g e

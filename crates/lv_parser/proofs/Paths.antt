@@ -23,7 +23,7 @@ use Rattle.lv_grammar.specs.Leaves.{all, within, limits}
 use Rattle.lv_grammar.specs.Rules.{rules, comma, list, behind}
 use Rattle.lv_parser.specs.Answers.{from, IsRead, Refuses, IsRefused}
 use Rattle.lv_parser.specs.Paths.{Path, Listed, Taken}
-use Rattle.lv_grammar.proofs.Settings.{setting, Rooms, has_tree}
+use Rattle.lv_grammar.proofs.Settings.{setting, Rooms, tree_within}
 use Rattle.lv_grammar.proofs.Shaped.{shaped}
 use Rattle.lv_viable.proofs.Readers.{Spelled}
 use Rattle.lv_viable.specs.Sets.{has_tree_in}
@@ -105,7 +105,7 @@ module _ {text : List ℕ} {tokens : List Token} {d : ℕ → Limit} where
       why : (e : SyntaxError) → Path text tokens d g at (both p h) us build → Refuses text tokens d p us e → Refuses text tokens d g at e
       why error.NoMemory w r = tt
       why (error.Syntax k) w r = (r.0, ways.stop (setting text d) w.way r.1)
-      why (error.Depth k) w r = ways.high (setting text d) w.way (has_tree text d f m h z) r
+      why (error.Depth k) w r = ways.high (setting text d) w.way (tree_within text d f m h z) r
 
   pub refuse : {A B C : Type 0} {g : Gram base A} {at : ℕ} {p : Gram base B} {h : Gram base C} {us : ℕ} {build : B × C → A} {e : SyntaxError} →
       Path text tokens d g at (both p h) us build → IsRefused text tokens d p us e → has_tree_in base no_rule h ≡ true → IsRefused text tokens d g at e

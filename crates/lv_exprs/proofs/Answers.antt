@@ -1,17 +1,17 @@
 -- The three answers, from where a run stands.
-use Rattle.std.proofs.Common.{◌≡◌, ℕ, ◌+◌, ◌≤◌, ◌<◌, List, [], ◌∷◌, ◌++◌, Some, None, Bool, refl, ap, sym, subst, ◌∙◌, arith, length, take, drop, get_or, inl, inr}
+use Rattle.std.proofs.Common.{◌≡◌, ℕ, ◌+◌, ◌≤◌, ◌<◌, List, [], ◌∷◌, ◌++◌, Some, None, Bool, cond, refl, ap, sym, subst, ◌∙◌, arith, length, take, drop, get_or, inl, inr}
 use Rattle.std.proofs.lemmas.List.{take_more, take-take, take-append-drop}
 use Rattle.std.proofs.lemmas.Bool.{cases_order}
 use Rattle.lv_exprs.specs.declared.symbol.Symbol.{Symbol}
 use Rattle.lv_exprs.specs.declared.symbol.Symbol.TheVariants as t
 use Rattle.lv_exprs.specs.Forms.{Form, text, Begins}
 use Rattle.lv_exprs.specs.Heights.{height}
-use Rattle.lv_exprs.specs.Lows.{base}
+use Rattle.lv_exprs.specs.Lows.{low, base}
 use Rattle.lv_exprs.specs.Machine.{State, have, alone, settle, done, finish, step, start, run, then_run, told, Sound}
 use Rattle.lv_exprs.specs.Reading.{Reads, Fails, IsTooHigh}
 use Rattle.lv_exprs.proofs.Unique.{found}
 use Rattle.lv_exprs.proofs.Kept.{Spells, Kept, settled}
-use Rattle.lv_exprs.proofs.Ends.{of_some, ran, started, whole_run, alive, dead}
+use Rattle.lv_exprs.proofs.Ends.{of_some, ran, started, whole_run, alive, alive_low, dead}
 use Rattle.lv_exprs.proofs.Heights.{as_high}
 
 -- nothing begins with the next token
@@ -72,12 +72,13 @@ fails p ts n s w e f d = record { within = w; alive = alive p (take n ts) s e; d
           dead_at p ts n s e d (omega arith) (drop (n + 1) (take m ts), x, r.expr, r.spells ∙ sym (cut ts (n + 1) m (omega arith) r.within))
     ]
 
-pub too_high : (limit : ℕ) (p : Bool) (ts : List Symbol) (n : ℕ) (s s' : State) → n < length ts → run p start (take n ts) ≡ Some s → step p s (get_or ts n t.Other) ≡ Some s' → limit < base p s' →
-    IsTooHigh limit p ts n
-too_high limit p ts n s s' l e f h =
+pub too_high : (limit : ℕ) (p : Bool) (ts : List Symbol) (n : ℕ) (s s' : State) → n < length ts → run p start (take n ts) ≡ Some s → step p s (get_or ts n t.Other) ≡ Some s' →
+    low s ≤ cond p (limit + 1) limit → limit < base p s' → IsTooHigh limit p ts n
+too_high limit p ts n s s' l e f b h =
     let r : run p start (take (n + 1) ts) ≡ Some s' = ap (run p start) (take_more ts n t.Other l) ∙ run_more p (take n ts) (get_or ts n t.Other) start s s' e f in
     record {
       within = l;
       alive = alive p (take (n + 1) ts) s' r;
       high = λ more x v w. let q : base p s' ≤ height x = as_high p (take (n + 1) ts) more s' x r v w in omega arith;
+      before = alive_low p (take n ts) (get_or ts n t.Other) s s' (cond p (limit + 1) limit) e f b;
     }

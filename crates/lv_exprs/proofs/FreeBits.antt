@@ -1,5 +1,5 @@
 -- A literal with free bits begins no expression that has a value.
-use Rattle.std.proofs.Common.{◌≡◌, ℕ, zero, suc, ◌+◌, ◌≤◌, ◌<◌, List, [], ◌∷◌, ◌++◌, Bool, true, false, length, take, refl, ap, sym, subst, ◌∙◌, arith, append_assoc, append-nil, nat_lt, inl, inr, ◌⊎◌}
+use Rattle.std.proofs.Common.{◌≡◌, ℕ, zero, suc, ◌+◌, ◌≤◌, ◌<◌, List, [], ◌∷◌, ◌++◌, Bool, true, false, length, take, refl, ap, sym, subst, ◌∙◌, arith, append-nil, inl, inr}
 use Rattle.lv_exprs.specs.declared.symbol.Number.{Number}
 use Rattle.lv_exprs.specs.declared.symbol.Based.{Based}
 use Rattle.lv_exprs.specs.declared.symbol.Symbol.{Symbol}
@@ -166,6 +166,7 @@ too_high_definite ts k h = record {
     | inr f ↦ absurd (free_low h.alive.1 f (h.high h.alive.0 h.alive.1 (inr f) h.alive.3))
   ];
   high = λ more x d e. h.high more x (inl d) e;
+  before = h.before;
 }
 
 -- nothing goes on behind a literal with free bits

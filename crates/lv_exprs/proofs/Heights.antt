@@ -6,29 +6,13 @@ use Rattle.lv_exprs.specs.declared.symbol.Divider.TheVariants as d
 use Rattle.lv_exprs.specs.declared.symbol.Symbol.{Symbol}
 use Rattle.lv_exprs.specs.declared.symbol.Symbol.TheVariants as t
 use Rattle.lv_exprs.specs.Levels.{level, leads, weight}
-use Rattle.lv_exprs.specs.Forms.{Form, plain, based, sized, name, dot, bit, part, prefix, binary, choice, paren, pair, text, rank, is_path, is_step, is_free, IsExpr}
+use Rattle.lv_exprs.specs.Forms.{Form, plain, based, sized, name, dot, bit, prefix, binary, choice, text, rank, is_path, is_step, is_free, IsExpr}
 use Rattle.lv_exprs.specs.Heights.{height}
 use Rattle.lv_exprs.specs.Machine.{Open, o_prefix, o_left, o_question, o_colon, o_paren, o_cast, o_brace, o_braces, o_repeat, o_repeats, o_index, o_part, State, want, have, casts, shut, dotted, alone, reduce, settle, pull, put_alone, want_shift, put_comma, put_divider, put_right_paren, put_right_brace, put_right_bracket, put_left_brace, put_based, have_shift, shift, Outcome, done, stop, finish, step, read, start, run}
 use Rattle.lv_exprs.specs.Lows.{over, over_all, low, index_base, number_base, bit_base, base}
 use Rattle.lv_exprs.proofs.Unique.{found}
+use Rattle.lv_exprs.proofs.Overs.{height_pos, all_up}
 use Rattle.lv_exprs.proofs.Ends.{of_some, carried}
-
-pub height_pos : (x : Form) → 1 ≤ height x
-height_pos (bit x i) = omega (arith, height_pos x)
-height_pos (part r x i j) = omega (arith, height_pos x)
-height_pos (prefix s x) = omega (arith, height_pos x)
-height_pos (paren x) = height_pos x
-height_pos (pair x y) = omega (arith, height_pos x)
-height_pos _ = omega arith
-
-over_up : (g : Open) (a b : ℕ) → a ≤ b → over g a ≤ over g b
-over_up (o_prefix s) a b h = omega arith
-over_up o_paren a b h = h
-over_up _ a b h = omega arith
-
-all_up : (s : List Open) (a b : ℕ) → a ≤ b → over_all s a ≤ over_all s b
-all_up [] a b h = h
-all_up (g ∷ s) a b h = all_up s (over g a) (over g b) (over_up g a b h)
 
 over_near : (g : Open) (a b : ℕ) → a ≤ b + 1 → over g a ≤ over g b + 1
 over_near (o_prefix s) a b h = omega arith
@@ -148,7 +132,7 @@ want_up : (p : Bool) (s : List Open) (k : Symbol) → IfSome (want_shift s k) (�
 want_up p s (t.Name n) = number_le p s
 want_up p s (t.Number n) = omega arith
 want_up p s (t.Based b) = literal_up (is_free (based b)) p s (based b) _ (number_le p s) (number_le p s)
-want_up p s (t.Cast b) = number_le p s
+want_up p s (t.Cast b) = ≤_then _ _ _ (number_le p s) (all_up s 1 2 (omega arith))
 want_up p s (t.Sign o) = led_up (leads o) p s o _ (number_le p s)
 want_up p s t.LeftParen = number_le p s
 want_up p s t.LeftBrace = ≤_then _ _ _ (number_le p s) (all_up s 1 (1 + 1) (omega arith))
@@ -251,7 +235,7 @@ have_up p s x _ = tt
 shift_up : (p : Bool) (m : State) (k : Symbol) → IfSome (shift p m k) (λ s'. base p m ≤ base p s')
 shift_up p (want s) k = want_up p s k
 shift_up p (have s x) k = have_up p s x k
-shift_up p (casts s b) t.LeftParen = all_up s 1 (1 + 1) (omega arith)
+shift_up p (casts s b) t.LeftParen = all_up s 2 (1 + 1) (omega arith)
 shift_up p (casts s b) _ = tt
 shift_up p (shut s c x) t.RightBrace = omega arith
 shift_up p (shut s c x) _ = tt

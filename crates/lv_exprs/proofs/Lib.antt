@@ -7,6 +7,7 @@ pub mod Finished
 pub mod Followed
 pub mod Heights
 pub mod Kept
+pub mod Overs
 pub mod Shown
 pub mod Standing
 pub mod Unique

@@ -1,5 +1,5 @@
 -- From where the reader stands to what its answers say.
-use Rattle.std.proofs.Common.{◌≡◌, ℕ, ◌+◌, ◌<◌, List, [], ◌∷◌, max, cond, Option, Some, None, Bool, true, false, refl, ap, sym, subst, ◌∙◌, arith, length, take, get_or}
+use Rattle.std.proofs.Common.{◌≡◌, ℕ, ◌+◌, ◌≤◌, ◌<◌, List, [], ◌∷◌, max, cond, Option, Some, None, Bool, true, false, refl, ap, sym, subst, ◌∙◌, arith, length, take, get_or}
 use Rattle.std.proofs.lemmas.List.{take_more}
 use Rattle.lv_ast.specs.declared.expr.Literal.{Literal}
 use Rattle.lv_ast.specs.declared.expr.Expr.TheVariants as tr
@@ -181,8 +181,8 @@ low_seen text (want s) fs x e =
     let c : over_all s 1 ≡ reached (shown text s) st.Want = omega arith in c) ∙ ap (λ (u : List Frame × Standing). reached u.0 u.1) (same_both _ fs _ x e)
 low_seen text (have s v) fs x e = marked text s (height v) ∙ ap (λ (u : List Frame × Standing). reached u.0 u.1) (same_both _ fs _ x e)
 low_seen text (casts s v) fs x e =
-    (let a : over_all s 1 ≡ max (marks (shown text s)) (depth s + 1) = marked text s 1 in let b : nodes (shown text s) ≡ depth s = nodes_shown text s in
-    let c : over_all s 1 ≡ reached (shown text s) (st.Cast v) = omega arith in c) ∙ ap (λ (u : List Frame × Standing). reached u.0 u.1) (same_both _ fs _ x e)
+    (let a : over_all s 2 ≡ max (marks (shown text s)) (depth s + 2) = marked text s 2 in let b : nodes (shown text s) ≡ depth s = nodes_shown text s in
+    let c : over_all s 2 ≡ reached (shown text s) (st.Cast v) = omega arith in c) ∙ ap (λ (u : List Frame × Standing). reached u.0 u.1) (same_both _ fs _ x e)
 low_seen text (shut s v w) fs x e =
     (let a : over_all s (1 + max (height v) (height w)) ≡ max (marks (shown text s)) (depth s + (1 + max (height v) (height w))) = marked text s (1 + max (height v) (height w)) in
     let c : over_all s (1 + max (height v) (height w)) ≡ max (marks (shown text s)) (1 + depth s + max (height v) (height w)) = omega arith in c)
@@ -198,7 +198,7 @@ over_base false s n e l = omega (arith, base_same s)
 
 -- the token that makes it too high
 pub is_deep : (text : List ℕ) (p : Bool) (ts : List Symbol) (n : ℕ) (fs gs : List Frame) (x y : Standing) → Stands text p ts n fs x → n < length ts →
-    next text p (get_or ts n t.Other) fs x ≡ on gs y → cond p 201 200 < reached gs y → IsTooHigh 200 p ts n
-is_deep text p ts n fs gs x y h l e w =
+    next text p (get_or ts n t.Other) fs x ≡ on gs y → reached fs x ≤ cond p 201 200 → cond p 201 200 < reached gs y → IsTooHigh 200 p ts n
+is_deep text p ts n fs gs x y h l e b w =
     let f : (s : State) × (step p h.state (get_or ts n t.Other) ≡ Some s) × (seen text s ≡ at gs y) = on_some text _ _ gs y (next_of text p ts n fs x (get_or ts n t.Other) (on gs y) h e) in
-    too_high 200 p ts n h.state f.0 l h.ran f.1 (over_base p f.0 (reached gs y) (low_seen text f.0 gs y f.2) w)
+    too_high 200 p ts n h.state f.0 l h.ran f.1 (subst (λ m. m ≤ cond p 201 200) (sym (low_seen text h.state fs x h.looks)) b) (over_base p f.0 (reached gs y) (low_seen text f.0 gs y f.2) w)

@@ -11,6 +11,7 @@ use Rattle.lv_exprs.specs.Answers.{tokens_from}
 use Rattle.lv_exprs.specs.Forms.{Form, text, rank, Valid}
 use Rattle.lv_exprs.specs.Heights.{height}
 use Rattle.lv_exprs.specs.Trees.{tree}
+use Rattle.lv_exprs.specs.Reading.{BeginsLow}
 
 -- a literal with free bits
 abbrev pub is_free_literal : Expr → Bool
@@ -38,11 +39,13 @@ pub record FailsDefinite (ts : List Symbol) (n : ℕ) : Type 0 where
   pub dead : n < length ts → BeginsDefinite (take (n + 1) ts) → ⊥
   pub none : (m : ℕ) (x : Form) → ReadsDefinite ts m x → ⊥
 
--- some such expression's spelling begins with the tokens up to the one at n, and each that does is higher
+-- some such expression's spelling begins with the tokens up to the one at n, and each that does is higher; but one that begins
+-- with those before it is not
 pub record IsTooHighDefinite (limit : ℕ) (ts : List Symbol) (n : ℕ) : Type 0 where
   pub within : n < length ts
   pub alive : BeginsDefinite (take (n + 1) ts)
   pub high : (more : List Symbol) (x : Form) → IsDefinite x → text x ≡ take (n + 1) ts ++ more → limit < height x
+  pub before : BeginsLow limit false (take n ts)
 
 -- the tokens from `from` to the one before `end` are read as this tree, which is no higher than 200
 abbrev pub IsDefiniteRead : List ℕ → List Token → ℕ → Expr → ℕ → Type 0

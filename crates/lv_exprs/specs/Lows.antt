@@ -28,7 +28,7 @@ over_all (g ∷ s) h = over_all s (over g h)
 abbrev pub low : State → ℕ
 low (want s) = over_all s 1
 low (have s x) = over_all s (height x)
-low (casts s b) = over_all s 1
+low (casts s b) = over_all s 2
 low (shut s c x) = over_all s (1 + max (height c) (height x))
 low (dotted s x) = over_all s 1
 low (alone x) = 1

@@ -250,6 +250,7 @@ seen_step sp.Bad fs = bad
 abbrev pub reached : List Frame → Standing → ℕ
 reached fs (st.Have x) = max (marks fs) x.reach
 reached fs (st.Shut y xs n) = max (marks fs) n
+reached fs (st.Cast signed) = max (marks fs) (nodes fs + 2)
 reached fs _ = max (marks fs) (nodes fs + 1)
 
 -- what a step may leave: the top alone is still to be looked at

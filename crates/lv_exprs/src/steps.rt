@@ -1,4 +1,4 @@
-ghost use Rattle.std.specs.Prelude.{◌≡◌, ◌≤◌, ◌<◌, ◌+◌, [], ◌∷◌, ◌++◌, IfOk, OnOk, true, false, Some, None};
+ghost use Rattle.std.specs.Prelude.{◌≡◌, ◌≤◌, ◌<◌, ◌+◌, max, [], ◌∷◌, ◌++◌, IfOk, OnOk, true, false, Some, None};
 ghost use Rattle.lv_exprs.specs.Steps as step;
 ghost use Rattle.lv_exprs.specs.Trees as trees;
 
@@ -782,14 +782,16 @@ pub fn finish(
     }
 }
 
-fn is_mark_high(stack: &Stack, limit: u32) -> bool
+/// Whether what is open is higher once it holds an operand of that height.
+fn is_mark_high(stack: &Stack, limit: u32, operand: u32) -> bool
     requires below { step.below stack.now.frames.items ≤ limit }
     requires depth { stack.now.depth ≤ 1000 }
-    ensures high { result ≡ true → limit < step.reached stack.now.frames.items Standing.Want }
-    ensures fits { result ≡ false → step.reached stack.now.frames.items Standing.Want ≤ limit }
+    requires operand { operand ≤ 2 }
+    ensures high { result ≡ true → limit < max (step.marks stack.now.frames.items) (step.nodes stack.now.frames.items + operand) }
+    ensures fits { result ≡ false → max (step.marks stack.now.frames.items) (step.nodes stack.now.frames.items + operand) ≤ limit }
 {
     let mark = stack.top_mark();
-    limit < mark || limit < stack.depth + 1
+    limit < mark || limit < stack.depth + operand
 }
 
 /// Whether every expression that begins so is higher, if no dot comes.
@@ -800,10 +802,10 @@ pub fn is_high(stack: &Stack, standing: &Standing, limit: u32) -> bool
     ensures fits { result ≡ false → step.reached stack.now.frames.items standing.now ≤ limit }
 {
     match standing {
-        Standing::Want => is_mark_high(stack, limit),
+        Standing::Want => is_mark_high(stack, limit, 1),
         Standing::Have(x) => limit < x.reach,
-        Standing::Cast(_) => is_mark_high(stack, limit),
+        Standing::Cast(_) => is_mark_high(stack, limit, 2),
         Standing::Shut(_, _, reach) => limit < *reach,
-        Standing::Dotted(_, _) => is_mark_high(stack, limit),
+        Standing::Dotted(_, _) => is_mark_high(stack, limit, 1),
     }
 }

@@ -15,6 +15,7 @@ use Rattle.lv_exprs.specs.declared.symbol.Divider.TheVariants as d
 use Rattle.lv_exprs.specs.declared.symbol.Symbol.{Symbol}
 use Rattle.lv_exprs.specs.declared.symbol.Symbol.TheVariants as t
 use Rattle.lv_exprs.specs.Levels.{level}
+use Rattle.lv_exprs.specs.Heights.{height}
 use Rattle.lv_exprs.specs.Forms.{Form, plain, based, sized, name, dot, bit, part, prefix, binary, choice, paren, cast, pair, brace, repeat, text, rank, is_free, Valid, IsExpr}
 use Rattle.lv_viable.proofs.Lists.{true_false, same_head, same_tail, right_nil}
 use Rattle.lv_grammar.specs.Lexemes.{Lexeme}
@@ -323,13 +324,53 @@ definite_at : (l : Leaf) (x : Form) → Valid false x × (1 ≤ rank x) → Vali
 definite_at value x v = v
 definite_at label x v = inl v
 
+kept_spells : (y : Form) (us : List Lexeme) (more : List Symbol) → Valid false y → text y ≡ symbols_of us ++ more → text (kept (length (symbols_of us)) y) ≡ symbols_of (us ++ map token_for more)
+kept_spells y us more v e =
+    kept_text (length (symbols_of us)) y v ∙ ap (keep (length (symbols_of us))) e ∙ keep_front (symbols_of us) more ∙
+    ap (λ ss. symbols_of us ++ ss) (sym (tokens_simple more)) ∙ sym (map-append symbol_of us (map token_for more))
+
 definite_completed : (l : Leaf) (y : Form) (us : List Lexeme) (more : List Symbol) → Valid false y × (1 ≤ rank y) → text y ≡ symbols_of us ++ more → Completed l us
 definite_completed l y us more v e = record {
   more = map token_for more;
   form = kept (length (symbols_of us)) y;
   valid = definite_at l _ (kept_valid (length (symbols_of us)) y v.0, ranked 1 (length (symbols_of us)) y v.1);
-  spells = kept_text (length (symbols_of us)) y v.0 ∙ ap (keep (length (symbols_of us))) e ∙ keep_front (symbols_of us) more ∙
-      ap (λ ss. symbols_of us ++ ss) (sym (tokens_simple more)) ∙ sym (map-append symbol_of us (map token_for more));
+  spells = kept_spells y us more v.0 e;
+}
+
+kept_height : (n : ℕ) (x : Form) → height (kept n x) ≡ height x
+kept_height n (plain m) = refl
+kept_height n (based b) = refl
+kept_height n (sized m b) = refl
+kept_height n (name m) = refl
+kept_height n (dot x m) = refl
+kept_height n (bit x i) = omega (arith, kept_height n x, kept_height (less (after n (text x))) i)
+kept_height n (part r x i j) =
+    omega (arith, kept_height n x, kept_height (less (after n (text x))) i, kept_height (less (after (less (after n (text x))) (text i))) j)
+kept_height n (prefix s x) = omega (arith, kept_height (less n) x)
+kept_height n (binary s x y) = omega (arith, kept_height n x, kept_height (less (after n (text x))) y)
+kept_height n (choice c x y) =
+    omega (arith, kept_height n c, kept_height (less (after n (text c))) x, kept_height (less (after (less (after n (text c))) (text x))) y)
+kept_height n (paren x) = kept_height (less n) x
+kept_height n (cast b x) = omega (arith, kept_height (less (less n)) x)
+kept_height n (pair x y) = omega (arith, kept_height n x, kept_height (less (after n (text x))) y)
+kept_height n (brace x) = omega (arith, kept_height (less n) x)
+kept_height n (repeat c x) = omega (arith, kept_height (less n) c, kept_height (less (after (less n) (text c))) x)
+
+-- the same within the limits
+pub record CompletedLow (l : Leaf) (us : List Lexeme) : Type 0 where
+  pub more : List Lexeme
+  pub form : Form
+  pub valid : ValidAt l form
+  pub spells : text form ≡ symbols_of (us ++ more)
+  pub low : height form ≤ 200
+
+pub completed_low : (l : Leaf) (y : Form) (us : List Lexeme) (more : List Symbol) → Valid false y → 1 ≤ rank y → height y ≤ 200 → text y ≡ symbols_of us ++ more → CompletedLow l us
+completed_low l y us more v r h e = record {
+  more = map token_for more;
+  form = kept (length (symbols_of us)) y;
+  valid = definite_at l _ (kept_valid (length (symbols_of us)) y v, ranked 1 (length (symbols_of us)) y r);
+  spells = kept_spells y us more v e;
+  low = subst (λ n. n ≤ 200) (sym (kept_height (length (symbols_of us)) y)) h;
 }
 
 whole : (y : Form) (us : List Lexeme) → IsExpr false y → text y ≡ symbols_of us ++ [] → Completed label us

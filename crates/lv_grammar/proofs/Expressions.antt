@@ -19,7 +19,7 @@ use Rattle.lv_viable.proofs.Lists.{and_left, and_right, true_false, nil_cons, sa
 use Rattle.lv_grammar.specs.Lexemes.{Lexeme}
 use Rattle.lv_grammar.specs.Shapes.{Shape, word, mark, fits, base, table, Leaf, value, label, Placed, never_leads, never_follows}
 use Rattle.lv_grammar.specs.Shapes as shapes
-use Rattle.lv_grammar.specs.Leaves.{symbol_of, symbols_of, ValidAt, IsExpression}
+use Rattle.lv_grammar.specs.Leaves.{symbol_of, symbols_of, ValidAt, IsExpression, IsLowExpression}
 use Rattle.lv_grammar.proofs.Shaped.{same_bytes, word_number, mark_number}
 
 -- ---- what a token of a shape is to an expression
@@ -212,6 +212,14 @@ witness bytes l = (
   zero_token ∷ [],
   record { tree = trees.tree bytes zero_form; place = 0 },
   record { form = zero_form; valid = valid_zero l; spells = refl; tree = refl; place = refl },
+)
+
+-- one within the limits
+pub low_witness : (bytes : List ℕ) (l : Leaf) → (us : List Lexeme) × (x : Placed Expr) × IsLowExpression bytes l us x
+low_witness bytes l = (
+  zero_token ∷ [],
+  record { tree = trees.tree bytes zero_form; place = 0 },
+  record { expression = record { form = zero_form; valid = valid_zero l; spells = refl; tree = refl; place = refl }; low = omega arith },
 )
 
 pub expressions : (bytes : List ℕ) → AreLeaves base table (IsExpression bytes)

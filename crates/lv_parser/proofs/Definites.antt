@@ -18,7 +18,7 @@ use Rattle.lv_exprs.specs.Definite.{ReadsDefinite, FailsDefinite, IsTooHighDefin
 use Rattle.lv_viable.specs.Grammar.{Gram, leaf, act}
 use Rattle.lv_viable.specs.Sets.{is_good}
 use Rattle.lv_viable.specs.Spelling.{Limit}
-use Rattle.lv_viable.specs.Reading.{Reads, Fails, PassesLimit, Begins}
+use Rattle.lv_viable.specs.Reading.{Reads, Fails, Passes, Within, PassesLimit, Begins}
 use Rattle.lv_grammar.specs.Lexemes.{Lexeme, lexeme, lexemes, place_of}
 use Rattle.lv_grammar.specs.Shapes.{Leaf, value, label, Placed, base, table}
 use Rattle.lv_grammar.specs.Rules as rules
@@ -27,7 +27,7 @@ use Rattle.lv_parser.specs.Answers.{from, placed, placed_result, IsRead, IsRefus
 use Rattle.lv_viable.proofs.Lists.{true_false, nil_cons}
 use Rattle.lv_grammar.proofs.Expressions.{begins}
 use Rattle.lv_parser.proofs.Paths.{begin, through, last, refuse_last}
-use Rattle.lv_grammar.proofs.Completions.{Completed, completed}
+use Rattle.lv_grammar.proofs.Completions.{Completed, completed, CompletedLow, completed_low}
 
 -- ---- the tokens as symbols
 
@@ -157,7 +157,7 @@ module _ (bytes : List ℕ) (d : ℕ → Limit) (l : Leaf) (ls : List Lexeme) (n
 
   pub passes_leaf : n < length (symbols_of ls) → (more : List Symbol) (x : Form) → ValidAt l x → text x ≡ take (n + 1) (symbols_of ls) ++ more →
       ((more : List Symbol) (y : Form) → ValidAt l y → text y ≡ take (n + 1) (symbols_of ls) ++ more → 200 < height y) →
-      PassesLimit base (all bytes) (within bytes d) (leaf l) ls (drop n ls)
+      Passes base (all bytes) (within bytes d) (leaf l) ls (drop n ls)
   passes_leaf w more x v e high =
       let o : (t : Lexeme) × (us : List Lexeme) × (drop n ls ≡ t ∷ us) = one_left n ls (subst (λ k. n < k) (symbols_length ls) w) in
       record {
@@ -172,6 +172,20 @@ module _ (bytes : List ℕ) (d : ℕ → Limit) (l : Leaf) (ls : List Lexeme) (n
     where
       low_high : {h : ℕ} → h ≤ 200 → 200 < h → ⊥
       low_high p q = omega (arith, p, q)
+
+  pub within_leaf : exprs.BeginsLow 200 false (take n (symbols_of ls)) → Within base (within bytes d) (leaf l) ls (drop n ls)
+  within_leaf b =
+      let c : CompletedLow l (take n ls) = completed_low l b.1 (take n ls) b.0 b.2 b.3 b.4 (b.5 ∙ ap (λ ss. ss ++ b.0) (take-map symbol_of n ls)) in
+      record {
+        front = take n ls;
+        cut = sym (take-append-drop n ls);
+        alive = record {
+          more = c.more;
+          ending = false;
+          tree = record { tree = tree bytes c.form; place = place_of (take n ls ++ c.more) };
+          spelled = (record { expression = record { form = c.form; valid = c.valid; spells = c.spells; tree = refl; place = refl }; low = c.low }, refl);
+        };
+      }
 
 -- ---- the answers of readers
 
@@ -207,10 +221,10 @@ module _ (bytes : List ℕ) (tokens : List Token) (at : ℕ) (d : ℕ → Limit)
   deep_leaf : (l : Leaf) (k : ℕ) → at ≤ k → k - at < length (symbols_of (from bytes tokens at)) → (more : List Symbol) (x : Form) → ValidAt l x →
       text x ≡ take (k - at + 1) (symbols_of (from bytes tokens at)) ++ more →
       ((more : List Symbol) (y : Form) → ValidAt l y → text y ≡ take (k - at + 1) (symbols_of (from bytes tokens at)) ++ more → 200 < height y) →
-      IsRefused bytes tokens d (leaf l) at (error.Depth k)
-  deep_leaf l k w h more x v e high = record {
+      exprs.BeginsLow 200 false (take (k - at) (symbols_of (from bytes tokens at))) → IsRefused bytes tokens d (leaf l) at (error.Depth k)
+  deep_leaf l k w h more x v e high before = record {
     why = subst (λ rest. PassesLimit base (all bytes) (within bytes d) (leaf l) (from bytes tokens at) rest) (further bytes tokens at k w)
-        (passes_leaf bytes d l (from bytes tokens at) (k - at) h more x v e high);
+        (record { passes = passes_leaf bytes d l (from bytes tokens at) (k - at) h more x v e high; within = within_leaf bytes d l (from bytes tokens at) (k - at) before });
   }
 
   definite_read : (x : Expr) (end : ℕ) (f : Form) → at ≤ end → ReadsDefinite (symbols_of (from bytes tokens at)) (end - at) f → tree bytes f ≡ x → height f ≤ 200 →
@@ -223,7 +237,7 @@ module _ (bytes : List ℕ) (tokens : List Token) (at : ℕ) (d : ℕ → Limit)
       (λ m x h v e ends. f.none m x (record { within = h; definite = v; spells = e; ends = λ h' b. ends h' b.0 b.1 b.2 b.3 }))
 
   definite_deep : (k : ℕ) → at ≤ k → IsTooHighDefinite 200 (symbols_of (from bytes tokens at)) (k - at) → IsRefused bytes tokens d (leaf value) at (error.Depth k)
-  definite_deep k w f = deep_leaf value k w f.within f.alive.0 f.alive.1 f.alive.2 f.alive.3 f.high
+  definite_deep k w f = deep_leaf value k w f.within f.alive.0 f.alive.1 f.alive.2 f.alive.3 f.high f.before
 
   pub definite_placed : at ≤ length tokens → (r : Result (Expr × ℕ) SyntaxError) →
       MatchResult r (λ r. IsDefiniteRead bytes tokens at r.0 r.1) (λ e. IsDefiniteRefused bytes tokens at e) → Answer bytes tokens d (leaf value) at (placed_result bytes tokens at r)
@@ -242,7 +256,7 @@ module _ (bytes : List ℕ) (tokens : List Token) (at : ℕ) (d : ℕ → Limit)
       (λ m x h v e ends. f.none m x (record { within = h; expr = v; spells = e; ends = λ h' b. ends h' b.0 b.1 b.2 b.3 }))
 
   expr_deep : (k : ℕ) → at ≤ k → exprs.IsTooHigh 200 false (symbols_of (from bytes tokens at)) (k - at) → IsRefused bytes tokens d (leaf label) at (error.Depth k)
-  expr_deep k w f = deep_leaf label k w f.within f.alive.0 f.alive.1 f.alive.2 f.alive.3 f.high
+  expr_deep k w f = deep_leaf label k w f.within f.alive.0 f.alive.1 f.alive.2 f.alive.3 f.high f.before
 
   deep_one : (k : ℕ) → at ≤ k → IsDeep bytes false (symbols_of (from bytes tokens at)) (k - at) → IsRefused bytes tokens d (leaf label) at (error.Depth k)
   deep_one k w (inl f) = expr_deep k w f

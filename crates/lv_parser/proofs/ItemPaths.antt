@@ -14,9 +14,9 @@ use Rattle.lv_grammar.specs.Rules as rules
 use Rattle.lv_parser.specs.Answers.{from, leads, IsRefused, AnswersItems}
 use Rattle.lv_parser.specs.Paths.{Path}
 use Rattle.lv_parser.proofs.Fronts.{leads_is}
-use Rattle.lv_parser.proofs.Paths.{begin, other, absent}
+use Rattle.lv_parser.proofs.Paths.{begin, through, refuse_last, other, absent}
 use Rattle.lv_parser.proofs.Directions.{direction_other, direction_absent}
-use Rattle.lv_parser.proofs.StatementPaths.{to_first, to_other, ruled, none_left}
+use Rattle.lv_parser.proofs.StatementPaths.{to_first, to_other, ruled, none_taken}
 
 -- ---- how many may nest
 
@@ -32,11 +32,6 @@ pub block_item_within : (text : List ℕ) (tokens : List Token) (n : ℕ) (at : 
 block_item_within text tokens n at v h q = λ d e f g.
     let k : d 2 ≡ most (suc (n - 1)) = g ∙ ap most (suc_of n h) in
     ruled text tokens d shapes.block_item at (ap allows k) v (q (inside 2 d) e f (ap lowered k))
-
-pub block_item_none : (text : List ℕ) (tokens : List Token) (n : ℕ) (at : ℕ) (b : Bool) (e : SyntaxError) → n ≡ 0 → at ≤ length tokens → b ≡ leads shapes.block_item (from text tokens at) → e ≡ cond b (error.Depth at) (error.Syntax at) →
-    AnswersItems n text tokens (call shapes.block_item) at (Err e)
-block_item_none text tokens n at b e z w l q = λ d f g h.
-    subst (λ x. IsRefused text tokens d (call shapes.block_item) at x) (sym q) (none_left shapes.block_item 2 at refl w (ap allows (h ∙ ap most z)) b l)
 
 -- ---- what begins an item of a block
 
@@ -76,6 +71,15 @@ block_apart true = refl
 pub whole_good : (looped : Bool) → is_good base table (rules.block_items (rules.block_end looped)) ≡ true
 whole_good false = refl
 whole_good true = refl
+
+-- none may nest: only the keyword that ends them may follow
+pub block_items_none : {text : List ℕ} {tokens : List Token} {d : ℕ → Limit} (looped : Bool) (at : ℕ) (b : Bool) (e : SyntaxError) → d 2 ≡ most 0 → at ≤ length tokens →
+    stands (shapes.word (rules.block_end looped)) (from text tokens at) ≡ false → b ≡ leads shapes.block_item (from text tokens at) → e ≡ cond b (error.Depth at) (error.Syntax at) →
+    IsRefused text tokens d (rules.block_items (rules.block_end looped)) at e
+block_items_none {text} {tokens} {d} looped at b e z w c l q =
+    refuse_last (through (begin (rules.block_items (rules.block_end looped)) at (whole_good looped)))
+    (subst (λ x. IsRefused text tokens d (until (call shapes.block_item) (rules.word (rules.block_end looped))) at x) (sym q)
+    (none_taken shapes.block_item (shapes.word (rules.block_end looped)) 2 at (block_good looped) refl w (ap allows z) c b l))
 
 -- ---- which item
 

@@ -8,6 +8,7 @@ pub mod Idents
 pub mod Instead
 pub mod ItemPaths
 pub mod Paths
+pub mod Rooms
 pub mod Selects
 pub mod Sources
 pub mod StatementPaths

@@ -1,5 +1,5 @@
 -- How a reader goes on, part by part.
-use Rattle.std.proofs.Common.{◌≡◌, ℕ, zero, suc, ◌+◌, List, [], ◌∷◌, ◌++◌, drop, true, false, not, Option, Some, None, refl, sym, ◌∙◌, ap, subst, add-one, codes}
+use Rattle.std.proofs.Common.{◌≡◌, ℕ, zero, suc, ◌+◌, List, [], ◌∷◌, ◌++◌, drop, Bool, true, false, not, Option, Some, None, refl, sym, ◌∙◌, ap, subst, add-one, codes}
 use Rattle.std.proofs.lemmas.List.{map-append}
 use Rattle.lv_ast.specs.declared.tokens.Token.{Token}
 use Rattle.lv_exprs.specs.declared.error.SyntaxError.{SyntaxError}
@@ -17,13 +17,17 @@ use Rattle.lv_viable.proofs.Ways as ways
 use Rattle.lv_viable.proofs.Grammars.{four_true}
 use Rattle.lv_viable.proofs.Lists.{true_false, nil_cons, same_tail}
 use Rattle.lv_grammar.specs.Lexemes.{Lexeme, lexemes, head}
-use Rattle.lv_grammar.specs.Shapes.{Shape, base, table, fits, stands}
+use Rattle.lv_grammar.specs.Shapes.{Shape, Rule, base, table, fits, stands}
 use Rattle.lv_grammar.specs.Shapes as shapes
 use Rattle.lv_grammar.specs.Leaves.{all, within, limits}
 use Rattle.lv_grammar.specs.Rules.{rules, comma, list, behind}
 use Rattle.lv_parser.specs.Answers.{from, IsRead, Refuses, IsRefused}
 use Rattle.lv_parser.specs.Paths.{Path, Listed, Taken}
-use Rattle.lv_grammar.proofs.Settings.{setting}
+use Rattle.lv_grammar.proofs.Settings.{setting, Rooms, tree_within}
+use Rattle.lv_grammar.proofs.Shaped.{shaped}
+use Rattle.lv_viable.proofs.Readers.{Spelled}
+use Rattle.lv_viable.specs.Sets.{has_tree_in}
+use Rattle.lv_parser.proofs.Rooms.{no_rule, none}
 
 -- ---- tokens
 
@@ -72,6 +76,10 @@ pub absent : {A : Type 0} (text : List ℕ) (tokens : List Token) (h : Gram base
     Outside base table h (from text tokens us)
 absent text tokens h us p z e = good.outside_one z (lacks_of p (from text tokens us) e)
 
+-- some token is of the shape
+pub one_tree : (text : List ℕ) (d : ℕ → Limit) (p : Shape) → (us : List Lexeme) × Spelled base (within text d) (one p) us
+one_tree text d p = let w : (t : Lexeme) × (fits p t ≡ true) = shaped.witness p in (w.0 ∷ [], (false, w.0, (refl, w.1, refl)))
+
 -- ---- one part after the other
 
 module _ {text : List ℕ} {tokens : List Token} {d : ℕ → Limit} where
@@ -89,14 +97,19 @@ module _ {text : List ℕ} {tokens : List Token} {d : ℕ → Limit} where
       Path text tokens d g at h us build → IsRead text tokens d h us y end → IsRead text tokens d g at (build y) end
   last w r = record { reads = ways.last w.way r.reads }
 
-  pub refuse : {A B C : Type 0} {g : Gram base A} {at : ℕ} {p : Gram base B} {h : Gram base C} {us : ℕ} {build : B × C → A} {e : SyntaxError} →
-      Path text tokens d g at (both p h) us build → IsRefused text tokens d p us e → IsRefused text tokens d g at e
-  refuse {g = g} {at} {p = p} {h} {us} {build} {e} w r = record { why = why e w r.why }
+  -- what is left has a tree, of rules that have trees
+  pub refuse_in : (f : Rule → Bool) → Rooms text d f → {A B C : Type 0} {g : Gram base A} {at : ℕ} {p : Gram base B} {h : Gram base C} {us : ℕ} {build : B × C → A} {e : SyntaxError} →
+      Path text tokens d g at (both p h) us build → IsRefused text tokens d p us e → has_tree_in base f h ≡ true → IsRefused text tokens d g at e
+  refuse_in f m {g = g} {at} {p = p} {h} {us} {build} {e} w r z = record { why = why e w r.why }
     where
       why : (e : SyntaxError) → Path text tokens d g at (both p h) us build → Refuses text tokens d p us e → Refuses text tokens d g at e
       why error.NoMemory w r = tt
       why (error.Syntax k) w r = (r.0, ways.stop (setting text d) w.way r.1)
-      why (error.Depth k) w r = ways.high (setting text d) w.way r
+      why (error.Depth k) w r = ways.high (setting text d) w.way (tree_within text d f m h z) r
+
+  pub refuse : {A B C : Type 0} {g : Gram base A} {at : ℕ} {p : Gram base B} {h : Gram base C} {us : ℕ} {build : B × C → A} {e : SyntaxError} →
+      Path text tokens d g at (both p h) us build → IsRefused text tokens d p us e → has_tree_in base no_rule h ≡ true → IsRefused text tokens d g at e
+  refuse w r z = refuse_in no_rule none w r z
 
   pub refuse_last : {A B : Type 0} {g : Gram base A} {at : ℕ} {h : Gram base B} {us : ℕ} {build : B → A} {e : SyntaxError} →
       Path text tokens d g at h us build → IsRefused text tokens d h us e → IsRefused text tokens d g at e
@@ -142,7 +155,7 @@ module _ {text : List ℕ} {tokens : List Token} {d : ℕ → Limit} where
   }
 
   pub list_refused : {A : Type 0} {x : Gram base A} {at : ℕ} {e : SyntaxError} → is_good base table (list x) ≡ true → IsRefused text tokens d x at e → IsRefused text tokens d (list x) at e
-  list_refused {x = x} {at} z r = refuse (through (begin (list x) at z)) r
+  list_refused {x = x} {at} z r = refuse (through (begin (list x) at z)) r refl
 
   -- an entry with its comma
   entry_begins : {A : Type 0} {x : Gram base A} {at us : ℕ} {xs : List A} → Listed text tokens d x at us xs → stands (shapes.mark (codes ",")) (from text tokens us) ≡ true →
@@ -204,7 +217,7 @@ module _ {text : List ℕ} {tokens : List Token} {d : ℕ → Limit} where
       why : (e : SyntaxError) → Refuses text tokens d x us e → Refuses text tokens d (until x (one p)) at e
       why error.NoMemory r = tt
       why (error.Syntax k) r = (r.0, rounds.one_stops (setting text d) z w.standing o r.1)
-      why (error.Depth k) r = rounds.one_high (setting text d) z w.standing o r
+      why (error.Depth k) r = rounds.one_high (setting text d) z w.standing o (one_tree text d p) r
 
   pub take_ends : {A : Type 0} {x : Gram base A} {p : Shape} {at us : ℕ} {xs : List A} →
       is_good base table (until x (one p)) ≡ true → apart base (these (p ∷ [])) (first base table x) ≡ true → Taken text tokens d x p at us xs → stands p (from text tokens us) ≡ true →

@@ -8,7 +8,7 @@ use Rattle.lv_ast.specs.declared.item.Source.{Source}
 use Rattle.lv_exprs.specs.declared.error.SyntaxError.{SyntaxError}
 use Rattle.lv_exprs.specs.declared.error.SyntaxError.TheVariants as error
 use Rattle.lv_viable.specs.Spelling.{IsSpelled}
-use Rattle.lv_viable.specs.Reading.{Begins, Reads, Fails, PassesLimit}
+use Rattle.lv_viable.specs.Reading.{Begins, Reads, Fails, Passes, PassesLimit}
 use Rattle.lv_viable.specs.Nexts.{Outside, Opens}
 use Rattle.lv_viable.proofs.Lists.{nil_cons, true_false}
 use Rattle.lv_viable.proofs.Calls.{is_within}
@@ -72,12 +72,14 @@ module _ (text : List ℕ) (tokens : List Token) where
 
   deep : (k : ℕ) → PassesLimit base (all text) (low text) source_rule (lexemes text tokens) (from text tokens k) → IsDeep text tokens k
   deep k p =
-      let e : front text tokens (suc k) ≡ p.front ++ (p.token ∷ []) =
-      take_next k (lexemes text tokens) p.others p.token p.at ∙ ap (λ ts. ts ++ (p.token ∷ [])) (sym (before_drop k (lexemes text tokens) p.front (p.cut ∙ ap (λ ts. p.front ++ ts) (sym p.at)))) in
+      let q : Passes base (all text) (low text) source_rule (lexemes text tokens) (from text tokens k) = p.passes in
+      let e : front text tokens (suc k) ≡ q.front ++ (q.token ∷ []) =
+      take_next k (lexemes text tokens) q.others q.token q.at ∙ ap (λ ts. ts ++ (q.token ∷ [])) (sym (before_drop k (lexemes text tokens) q.front (q.cut ∙ ap (λ ts. q.front ++ ts) (sym q.at)))) in
       record {
-        place = subst (λ m. k < m) count (drop_is_some k (lexemes text tokens) p.others p.token p.at);
-        alive = subst (λ ts. Begins base (all text) source_rule ts) (sym e) p.alive;
-        high = λ b. p.high (subst (λ ts. Begins base (low text) source_rule ts) e b);
+        place = subst (λ m. k < m) count (drop_is_some k (lexemes text tokens) q.others q.token q.at);
+        alive = subst (λ ts. Begins base (all text) source_rule ts) (sym e) q.alive;
+        high = λ b. q.high (subst (λ ts. Begins base (low text) source_rule ts) e b);
+        before = subst (λ ts. Begins base (low text) source_rule ts) (before_drop k (lexemes text tokens) p.within.front p.within.cut) p.within.alive;
       }
 
   pub refused : (e : SyntaxError) → IsRefused text tokens limits source_rule 0 e → RefusesSource text tokens e
@@ -133,8 +135,11 @@ module _ (text : List ℕ) (tokens : List Token) where
 
   -- what begins a tree has a first token
   high_opens : (us : ℕ) {ts : List Lexeme} → PassesLimit base (all text) (low text) module_rule (from text tokens us) ts → Opens base (all text) module_rule (from text tokens us)
-  high_opens us p = go p.front p.cut p.alive
+  high_opens us {ts} q = go p.front p.cut p.alive
     where
+      p : Passes base (all text) (low text) module_rule (from text tokens us) ts
+      p = q.passes
+
       go : (f : List Lexeme) → from text tokens us ≡ f ++ (p.token ∷ p.others) → Begins base (all text) module_rule (f ++ (p.token ∷ [])) → Opens base (all text) module_rule (from text tokens us)
       go [] e b = record { token = p.token; others = p.others; cut = e; alive = b }
       go (t ∷ f) e b = record { token = t; others = f ++ (p.token ∷ p.others); cut = e; alive = past (t ∷ (f ++ (p.token ∷ []))) [] (f ++ (p.token ∷ [])) t refl b }
@@ -150,7 +155,7 @@ module _ (text : List ℕ) (tokens : List Token) where
   }
 
   pub first_refused : {e : SyntaxError} → IsRefused text tokens limits module_rule 0 e → RefusesSource text tokens e
-  first_refused {e} r = refused e (refuse (through (begin source_rule 0 refl)) r)
+  first_refused {e} r = refused e (refuse (through (begin source_rule 0 refl)) r refl)
 
   pub source_more : {us vs : ℕ} {xs zs : List Module} {y : Module} → Sourced text tokens us xs → zs ≡ xs ++ (y ∷ []) → IsRead text tokens limits module_rule us y vs → Sourced text tokens vs zs
   source_more {us} {vs} {xs} {zs} {y} w e r = record {

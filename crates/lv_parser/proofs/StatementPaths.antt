@@ -9,23 +9,27 @@ use Rattle.lv_ast.specs.declared.stmt.Stmt.TheVariants as stmt
 use Rattle.lv_ast.specs.declared.stmt.Arm.{Arm}
 use Rattle.lv_exprs.specs.declared.error.SyntaxError.{SyntaxError}
 use Rattle.lv_exprs.specs.declared.error.SyntaxError.TheVariants as error
-use Rattle.lv_viable.specs.Grammar.{Gram, call, until, tail}
+use Rattle.lv_viable.specs.Grammar.{Gram, one, call, until, tail}
 use Rattle.lv_viable.specs.Spelling.{Limit, most, allows, lowered, inside}
 use Rattle.lv_viable.specs.Sets as viable
-use Rattle.lv_viable.specs.Sets.{some_of, all_of, among, is_in, is_good, these, first, apart}
+use Rattle.lv_viable.specs.Sets.{some_of, all_of, among, is_in, is_good, these, first, apart, has_tree_in}
 use Rattle.lv_viable.specs.Nexts.{Outside, Opens}
 use Rattle.lv_viable.proofs.Good as good
+use Rattle.lv_viable.proofs.Rounds as rounds
+use Rattle.lv_viable.proofs.Readers.{Spelled, begun}
+use Rattle.lv_viable.proofs.Starved.{starved, no_tree}
+use Rattle.lv_viable.proofs.Rules.{call_none}
 use Rattle.lv_viable.proofs.Ways as ways
 use Rattle.lv_viable.proofs.Lists.{true_false, and_left, and_right}
 use Rattle.lv_grammar.specs.Lexemes.{Lexeme, place_of}
 use Rattle.lv_grammar.specs.Shapes.{Shape, Rule, base, table, stands, rule_leads}
 use Rattle.lv_grammar.specs.Shapes as shapes
-use Rattle.lv_grammar.specs.Leaves.{all}
+use Rattle.lv_grammar.specs.Leaves.{all, within}
 use Rattle.lv_grammar.specs.Rules as rules
-use Rattle.lv_parser.specs.Answers.{from, leads, placed, IsRead, Refuses, IsRefused, Answer, AnswersStmts}
+use Rattle.lv_parser.specs.Answers.{from, leads, nests, placed, IsRead, Refuses, IsRefused, Answer, AnswersStmts}
 use Rattle.lv_parser.specs.Paths.{Path, Taken}
-use Rattle.lv_grammar.proofs.Settings.{setting}
-use Rattle.lv_parser.proofs.Paths.{next_of, lacks_of, begin, through, then, last, refuse, refuse_last, to_left, to_right, opens, other, absent, taken, take_more, take_stops, take_ends}
+use Rattle.lv_grammar.proofs.Settings.{setting, room}
+use Rattle.lv_parser.proofs.Paths.{next_of, lacks_of, begin, through, then, last, refuse, refuse_last, to_left, to_right, opens, other, absent, one_tree, taken, take_more, take_stops, take_ends}
 use Rattle.lv_parser.proofs.Fronts.{leads_is}
 
 -- ---- answers that are handed on
@@ -96,12 +100,29 @@ opens_one text tokens r n at (p ∷ ps) z e = elim (or_cases (stands p (from tex
 leads_not : (r : Rule) (ts : List Lexeme) → leads r ts ≡ false → Outside base table (call r) ts
 leads_not r ts e = record { out = λ m us q. sym (ap (leads r) q) ∙ e }
 
--- a limit is passed where one begins
-pub none_left : {text : List ℕ} {tokens : List Token} {d : ℕ → Limit} (r : Rule) (n : ℕ) (at : ℕ) → all_of (among base (viable.shapes base rules.rules n (call r))) (rule_leads r) ≡ true → at ≤ length tokens → allows (d (shapes.count_of r)) ≡ false →
-    (b : Bool) → b ≡ leads r (from text tokens at) → IsRefused text tokens d (call r) at (cond b (error.Depth at) (error.Syntax at))
-none_left {text} {tokens} {d} r n at z w a true e =
-    record { why = good.call_passes (setting text d) r a (opens_one text tokens r n at (rule_leads r) z (sym (leads_is r (from text tokens at)) ∙ sym e)) }
-none_left {text} {tokens} {d} r n at z w a false e = record { why = (w, good.call_outside (setting text d) r (leads_not r (from text tokens at) (sym e))) }
+-- of any number up to a token one begins, where no more may nest
+pub none_taken : {text : List ℕ} {tokens : List Token} {d : ℕ → Limit} (r : Rule) (p : Shape) (n : ℕ) (at : ℕ) → is_good base table (until (call r) (one p)) ≡ true →
+    all_of (among base (viable.shapes base rules.rules n (call r))) (rule_leads r) ≡ true → at ≤ length tokens → allows (d (shapes.count_of r)) ≡ false → stands p (from text tokens at) ≡ false →
+    (b : Bool) → b ≡ leads r (from text tokens at) → IsRefused text tokens d (until (call r) (one p)) at (cond b (error.Depth at) (error.Syntax at))
+none_taken {text} {tokens} {d} r p n at g z w a c true e = record {
+  why = rounds.none_within (setting text d) g (absent text tokens (one p) at p refl c) (opens_one text tokens r n at (rule_leads r) z (sym (leads_is r (from text tokens at)) ∙ sym e))
+      (call_none (setting text d).within r a) (one_tree text d p);
+}
+none_taken {text} {tokens} {d} r p n at g z w a c false e =
+    take_stops g (taken (call r) p at refl) c (record { why = (w, good.call_outside (setting text d) r (leads_not r (from text tokens at) (sym e))) })
+
+-- of a rule that may nest once more, what begins has another one in it
+pub none_inside : {text : List ℕ} {tokens : List Token} {d : ℕ → Limit} (r : Rule) (g : Gram base (base.RuleTree r)) (f : Rule → Bool) (at : ℕ) → allows (d (shapes.count_of r)) ≡ true →
+    Path text tokens (inside (shapes.count_of r) d) (rules.rules r) at g at (λ y. y) → Opens base (all text) g (from text tokens at) →
+    ((q : Rule) → f q ≡ false → (us : List Lexeme) → Spelled base (within text (inside (shapes.count_of r) d)) (call q) us → ⊥) → has_tree_in base f g ≡ false →
+    IsRefused text tokens d (call r) at (error.Depth at)
+none_inside {text} {tokens} {d} r g f at a w o k z = record {
+  why = record {
+    passes = (ways.begin_rule (setting text d) r (from text tokens at) a).at.passes (from text tokens at)
+        (w.way.at.passes (from text tokens at) (starved o (no_tree base (within text (inside (shapes.count_of r) d)) f k g z)));
+    within = record { front = []; cut = refl; alive = begun [] (room text d r a).0 (room text d r a).1 };
+  };
+}
 
 -- ---- statements
 
@@ -140,11 +161,6 @@ pub stmt_within : (text : List ℕ) (tokens : List Token) (n : ℕ) (at : ℕ) (
 stmt_within text tokens n at v h q = λ d e f.
     let g : d 1 ≡ most (suc (n - 1)) = f ∙ ap most (suc_of n h) in
     ruled text tokens d shapes.stmt at (ap allows g) v (q (inside 1 d) e (ap lowered g))
-
-pub stmt_none : (text : List ℕ) (tokens : List Token) (n : ℕ) (at : ℕ) (b : Bool) (e : SyntaxError) → n ≡ 0 → at ≤ length tokens → b ≡ leads shapes.stmt (from text tokens at) → e ≡ cond b (error.Depth at) (error.Syntax at) →
-    AnswersStmts n text tokens (call shapes.stmt) at (Err e)
-stmt_none text tokens n at b e z w l q = λ d f g.
-    subst (λ x. IsRefused text tokens d (call shapes.stmt) at x) (sym q) (none_left shapes.stmt 2 at refl w (ap allows (g ∙ ap most z)) b l)
 
 abbrev from_loop : Gram base Stmt
 from_loop = rules.or_else rules.loop rules.assignment
@@ -198,6 +214,102 @@ module _ {text : List ℕ} {tokens : List Token} {d : ℕ → Limit} (at : ℕ) 
   pub not_loop : Path text tokens d rules.stmt_rule at from_loop at (λ y. y) → stands (shapes.word (codes "for")) (from text tokens at) ≡ false → Path text tokens d rules.stmt_rule at rules.assignment at (λ y. y)
   not_loop w e = to_other w (absent text tokens rules.loop at (shapes.word (codes "for")) refl e)
 
+-- ---- where no other may nest in it
+
+abbrev not_stmt : Rule → Bool
+not_stmt shapes.stmt = false
+not_stmt _ = true
+
+module _ {text : List ℕ} {tokens : List Token} {d : ℕ → Limit} (at : ℕ) where
+  choice_here : stands (shapes.word (codes "if")) (from text tokens at) ≡ true → Path text tokens d rules.stmt_rule at rules.choice at (λ y. y)
+  choice_here e =
+      let w1 = to_other (begin rules.stmt_rule at refl) (other text tokens rules.empty at (shapes.word (codes "if")) refl e) in
+      let w2 = to_other w1 (other text tokens rules.block at (shapes.word (codes "if")) refl e) in
+      to_first w2 (other text tokens from_case at (shapes.word (codes "if")) refl e)
+
+  case_here : stands (shapes.word (codes "case")) (from text tokens at) ≡ true → Path text tokens d rules.stmt_rule at (rules.cases false) at (λ y. y)
+  case_here e =
+      let w1 = to_other (begin rules.stmt_rule at refl) (other text tokens rules.empty at (shapes.word (codes "case")) refl e) in
+      let w2 = to_other w1 (other text tokens rules.block at (shapes.word (codes "case")) refl e) in
+      let w3 = to_other w2 (other text tokens rules.choice at (shapes.word (codes "case")) refl e) in
+      to_first w3 (other text tokens from_casez at (shapes.word (codes "case")) refl e)
+
+  casez_here : stands (shapes.word (codes "casez")) (from text tokens at) ≡ true → Path text tokens d rules.stmt_rule at (rules.cases true) at (λ y. y)
+  casez_here e =
+      let w1 = to_other (begin rules.stmt_rule at refl) (other text tokens rules.empty at (shapes.word (codes "casez")) refl e) in
+      let w2 = to_other w1 (other text tokens rules.block at (shapes.word (codes "casez")) refl e) in
+      let w3 = to_other w2 (other text tokens rules.choice at (shapes.word (codes "casez")) refl e) in
+      let w4 = to_other w3 (other text tokens (rules.cases false) at (shapes.word (codes "casez")) refl e) in
+      to_first w4 (other text tokens from_loop at (shapes.word (codes "casez")) refl e)
+
+  loop_here : stands (shapes.word (codes "for")) (from text tokens at) ≡ true → Path text tokens d rules.stmt_rule at rules.loop at (λ y. y)
+  loop_here e =
+      let w1 = to_other (begin rules.stmt_rule at refl) (other text tokens rules.empty at (shapes.word (codes "for")) refl e) in
+      let w2 = to_other w1 (other text tokens rules.block at (shapes.word (codes "for")) refl e) in
+      let w3 = to_other w2 (other text tokens rules.choice at (shapes.word (codes "for")) refl e) in
+      let w4 = to_other w3 (other text tokens (rules.cases false) at (shapes.word (codes "for")) refl e) in
+      let w5 = to_other w4 (other text tokens (rules.cases true) at (shapes.word (codes "for")) refl e) in
+      to_first w5 (other text tokens rules.assignment at (shapes.word (codes "for")) refl e)
+
+module _ (text : List ℕ) (tokens : List Token) (n : ℕ) (at : ℕ) (z : n ≡ 1) (d : ℕ → Limit) (f : d 1 ≡ most n) where
+  one_left : d 1 ≡ most 1
+  one_left = f ∙ ap most z
+
+  no_stmt : (q : Rule) → not_stmt q ≡ false → (us : List Lexeme) → Spelled base (within text (inside 1 d)) (call q) us → ⊥
+  no_stmt shapes.stmt e us c = call_none (setting text (inside 1 d)).within shapes.stmt (ap (λ l. allows (lowered l)) one_left) us c
+  no_stmt shapes.target e us c = true_false true refl e
+  no_stmt shapes.item e us c = true_false true refl e
+  no_stmt shapes.block_item e us c = true_false true refl e
+
+  nested : (p : Shape) (g : Gram base Stmt) → Path text tokens (inside 1 d) rules.stmt_rule at g at (λ y. y) → among base (viable.shapes base rules.rules 0 g) p ≡ true → has_tree_in base not_stmt g ≡ false →
+      stands p (from text tokens at) ≡ true → IsRefused text tokens d (call shapes.stmt) at (error.Depth at)
+  nested p g w i j e = none_inside shapes.stmt g not_stmt at (ap allows one_left) w (opens text tokens g at 0 p i e) no_stmt j
+
+  deep_stmt : nests (from text tokens at) ≡ true → IsRefused text tokens d (call shapes.stmt) at (error.Depth at)
+  deep_stmt e = elim (or_cases (stands (shapes.word (codes "case")) ts || stands (shapes.word (codes "casez")) ts) (stands (shapes.word (codes "if")) ts || stands (shapes.word (codes "for")) ts) e) [
+    | inl i ↦ elim (or_cases (stands (shapes.word (codes "case")) ts) (stands (shapes.word (codes "casez")) ts) i) [
+      | inl j ↦ nested (shapes.word (codes "case")) (rules.cases false) (case_here at j) refl refl j
+      | inr j ↦ nested (shapes.word (codes "casez")) (rules.cases true) (casez_here at j) refl refl j
+    ]
+    | inr i ↦ elim (or_cases (stands (shapes.word (codes "if")) ts) (stands (shapes.word (codes "for")) ts) i) [
+      | inl j ↦ nested (shapes.word (codes "if")) rules.choice (choice_here at j) refl refl j
+      | inr j ↦ nested (shapes.word (codes "for")) rules.loop (loop_here at j) refl refl j
+    ]
+  ]
+    where
+      ts : List Lexeme
+      ts = from text tokens at
+
+pub stmt_last : (text : List ℕ) (tokens : List Token) (n : ℕ) (at : ℕ) → n ≡ 1 → nests (from text tokens at) ≡ true → AnswersStmts n text tokens (call shapes.stmt) at (Err (error.Depth at))
+stmt_last text tokens n at z e = λ d h f. deep_stmt text tokens n at z d f e
+
+true_left : (a b : Bool) → a ≡ true → a || b ≡ true
+true_left true b e = refl
+true_left false b e = true_false false e refl
+
+true_right : (a b : Bool) → b ≡ true → a || b ≡ true
+true_right true b e = refl
+true_right false b e = e
+
+pub nests_case : (ts : List Lexeme) → stands (shapes.word (codes "case")) ts ≡ true → nests ts ≡ true
+nests_case ts e = true_left _ _ (true_left _ _ e)
+
+pub nests_casez : (ts : List Lexeme) → stands (shapes.word (codes "casez")) ts ≡ true → nests ts ≡ true
+nests_casez ts e = true_left _ _ (true_right _ _ e)
+
+pub nests_if : (ts : List Lexeme) → stands (shapes.word (codes "if")) ts ≡ true → nests ts ≡ true
+nests_if ts e = true_right _ _ (true_left _ _ e)
+
+pub nests_for : (ts : List Lexeme) → stands (shapes.word (codes "for")) ts ≡ true → nests ts ≡ true
+nests_for ts e = true_right _ _ (true_right _ _ e)
+
+-- none may nest: only the keyword that ends them may follow
+pub stmts_none : {text : List ℕ} {tokens : List Token} {d : ℕ → Limit} (at : ℕ) (b : Bool) (e : SyntaxError) → d 1 ≡ most 0 → at ≤ length tokens → stands (shapes.word (codes "end")) (from text tokens at) ≡ false →
+    b ≡ leads shapes.stmt (from text tokens at) → e ≡ cond b (error.Depth at) (error.Syntax at) → IsRefused text tokens d rules.stmts_to_end at e
+stmts_none {text} {tokens} {d} at b e z w c l q =
+    refuse_last (through (begin rules.stmts_to_end at refl))
+    (subst (λ x. IsRefused text tokens d (until (call shapes.stmt) (rules.word (codes "end"))) at x) (sym q) (none_taken shapes.stmt (shapes.word (codes "end")) 2 at refl refl w (ap allows z) c b l))
+
 -- ---- an if, and perhaps its else
 
 module _ {text : List ℕ} {tokens : List Token} {d : ℕ → Limit} where
@@ -237,7 +349,7 @@ pub record Armed (text : List ℕ) (tokens : List Token) (d : ℕ → Limit) (wi
   pub are : xs ≡ first ∷ others
 
 pub first_refused : {text : List ℕ} {tokens : List Token} {d : ℕ → Limit} (wild : Bool) {at : ℕ} {e : SyntaxError} → IsRefused text tokens d (rules.arm wild) at e → IsRefused text tokens d (rules.arms wild) at e
-first_refused wild {at} r = refuse (through (begin (rules.arms wild) at refl)) r
+first_refused wild {at} r = refuse (through (begin (rules.arms wild) at refl)) r refl
 
 module _ {text : List ℕ} {tokens : List Token} {d : ℕ → Limit} {wild : Bool} {at : ℕ} where
   pub arms_first : {us : ℕ} {x : Arm} {none xs : List Arm} → none ≡ [] → xs ≡ none ++ (x ∷ []) → IsRead text tokens d (rules.arm wild) at x us → Armed text tokens d wild at us xs

@@ -1,5 +1,5 @@
 -- What a reader answers that begins at a token, and what `read_source` answers.
-use Rattle.std.specs.Prelude.{◌≡◌, ℕ, suc, ◌≤◌, ◌<◌, List, [], ◌∷◌, Bool, false, length, take, drop, MatchResult, Result, Ok, Err}
+use Rattle.std.specs.Prelude.{◌≡◌, ℕ, suc, ◌≤◌, ◌<◌, ◌||◌, List, [], ◌∷◌, Bool, false, codes, length, take, drop, MatchResult, Result, Ok, Err}
 use Rattle.lv_ast.specs.declared.tokens.Token.{Token}
 use Rattle.lv_ast.specs.declared.item.Source.{Source}
 use Rattle.lv_exprs.specs.declared.error.SyntaxError.{SyntaxError}
@@ -9,7 +9,8 @@ use Rattle.lv_viable.specs.Spelling.{Limit, most, IsSpelled}
 use Rattle.lv_viable.specs.Sets.{is_in}
 use Rattle.lv_viable.specs.Reading.{Begins, Reads, Fails, PassesLimit}
 use Rattle.lv_grammar.specs.Lexemes.{Lexeme, lexemes, head, place_of}
-use Rattle.lv_grammar.specs.Shapes.{Placed, Rule, base, table}
+use Rattle.lv_grammar.specs.Shapes.{Placed, Rule, base, table, stands}
+use Rattle.lv_grammar.specs.Shapes as shapes
 use Rattle.lv_grammar.specs.Leaves.{all, within, low}
 use Rattle.lv_grammar.specs.Rules.{source_rule}
 
@@ -81,6 +82,12 @@ abbrev pub leads : Rule → List Lexeme → Bool
 leads r [] = false
 leads r (t ∷ ts) = is_in base (table.rule_first r) t
 
+-- a statement begins there in which another one stands
+abbrev pub nests : List Lexeme → Bool
+nests ts =
+    (stands (shapes.word (codes "case")) ts || stands (shapes.word (codes "casez")) ts) ||
+    (stands (shapes.word (codes "if")) ts || stands (shapes.word (codes "for")) ts)
+
 -- ---- the whole list
 
 -- the tokens spell a source within the limits
@@ -98,11 +105,13 @@ pub record IsWrong (text : List ℕ) (tokens : List Token) (k : ℕ) : Type 0 wh
   pub dead : k < length tokens → Begins base (all text) source_rule (front text tokens (suc k)) → ⊥
   pub none : (o : Bool) (s : Source) → IsSpelled base (all text) source_rule (lexemes text tokens) o s → ⊥
 
--- some source's spelling begins with the tokens up to this one, and each of them passes a limit
+-- some source's spelling begins with the tokens up to this one, and each of them passes a limit; but one within the limits begins
+-- with those before it
 pub record IsDeep (text : List ℕ) (tokens : List Token) (k : ℕ) : Type 0 where
   pub place : k < length tokens
   pub alive : Begins base (all text) source_rule (front text tokens (suc k))
   pub high : Begins base (low text) source_rule (front text tokens (suc k)) → ⊥
+  pub before : Begins base (low text) source_rule (front text tokens k)
 
 abbrev pub RefusesSource : List ℕ → List Token → SyntaxError → Type 0
 RefusesSource text tokens error.NoMemory = Unit {0}

@@ -135,6 +135,24 @@ fn is_block_end(tokens: &Tokens, at: usize, looped: bool) -> bool
     }
 }
 
+/// The keyword that ends a generate block, of a loop or of a region, in which no item may nest.
+fn no_items(
+    alloc: Global,
+    tokens: &Tokens,
+    at: usize,
+    looped: bool,
+) -> Result<(Items<Item>, usize), SyntaxError>
+    requires { at ≤ length tokens.now.list }
+    ensures answer { AnswersItems 0 tokens.now.text tokens.now.list (rules.block_items (rules.block_end looped)) at result }
+    ensures ahead { IfOk result (λ r. GoesOn tokens.now.list at r) }
+{
+    if is_block_end(tokens, at, looped) {
+        Ok((Items::new(alloc), at + 1))
+    } else {
+        Err(refused(begins_block_item(tokens, at), at))
+    }
+}
+
 /// Items of a generate block, of a loop or of a region, up to the keyword that ends it.
 #[cycle(items)]
 fn block_items(
@@ -148,6 +166,9 @@ fn block_items(
     ensures answer { AnswersItems left tokens.now.text tokens.now.list (rules.block_items (rules.block_end looped)) at result }
     ensures ahead { IfOk result (λ r. GoesOn tokens.now.list at r) }
 {
+    if left == 0 {
+        return no_items(alloc, tokens, at, looped);
+    }
     let mut list = Items::new(alloc);
     let mut end = at;
     'entries: while !is_block_end(tokens, end, looped) {
@@ -290,15 +311,12 @@ fn block_item(
     at: usize,
     left: u32,
 ) -> Result<(Item, usize), SyntaxError>
-    requires { at ≤ length tokens.now.list }
+    requires place { at ≤ length tokens.now.list }
+    requires room { 0 < left }
     ensures answer { AnswersItems left tokens.now.text tokens.now.list (call shapes.block_item) at result }
     ensures ahead { IfOk result (λ r. GoesOn tokens.now.list at r) }
 {
-    if left == 0 {
-        Err(refused(begins_block_item(tokens, at), at))
-    } else {
-        block_item_body(alloc, tokens, at, left - 1)
-    }
+    block_item_body(alloc, tokens, at, left - 1)
 }
 
 /// An item of a module.

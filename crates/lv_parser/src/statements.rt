@@ -1,11 +1,11 @@
 //! Statements (IEEE 1364-2005, annex A.6).
 
-ghost use Rattle.std.specs.Prelude.{◌≡◌, ◌+◌, ◌<◌, ◌≤◌, ◌||◌, codes, length, IfOk, refl};
+ghost use Rattle.std.specs.Prelude.{◌≡◌, ◌+◌, ◌<◌, ◌≤◌, ◌||◌, codes, length, IfOk, true, false, refl};
 ghost use Rattle.lv_viable.specs.Grammar.{call};
 ghost use Rattle.lv_grammar.specs.Shapes.{stands};
 ghost use Rattle.lv_grammar.specs.Shapes as shapes;
 ghost use Rattle.lv_grammar.specs.Rules as rules;
-ghost use Rattle.lv_parser.specs.Answers.{from, leads, Answers, AnswersTargets, AnswersStmts, AnswersSome, token_result, GoesOn, Stays};
+ghost use Rattle.lv_parser.specs.Answers.{from, leads, nests, Answers, AnswersTargets, AnswersStmts, AnswersSome, token_result, GoesOn, Stays};
 
 use crate::exprs::{label, value};
 use crate::lists::{Entries, list};
@@ -66,7 +66,8 @@ fn inner_stmt(
     at: usize,
     left: u32,
 ) -> Result<(Boxed<Stmt>, usize), SyntaxError>
-    requires { at ≤ length tokens.now.list }
+    requires place { at ≤ length tokens.now.list }
+    requires room { 0 < left }
     ensures answer { AnswersStmts left tokens.now.text tokens.now.list (call shapes.stmt) at result }
     ensures ahead { IfOk result (λ r. GoesOn tokens.now.list at r) }
 {
@@ -77,7 +78,8 @@ fn inner_stmt(
 
 #[cycle(statements)]
 fn turns(alloc: Global, tokens: &Tokens, at: usize, left: u32) -> Result<(Stmt, usize), SyntaxError>
-    requires { at ≤ length tokens.now.list }
+    requires place { at ≤ length tokens.now.list }
+    requires room { 0 < left }
     ensures answer { AnswersStmts left tokens.now.text tokens.now.list rules.loop at result }
     ensures ahead { IfOk result (λ r. GoesOn tokens.now.list at r) }
 {
@@ -110,6 +112,19 @@ fn block_name(
     }
 }
 
+/// The `end` of statements of which none may nest.
+fn no_stmts(alloc: Global, tokens: &Tokens, at: usize) -> Result<(Items<Stmt>, usize), SyntaxError>
+    requires { at ≤ length tokens.now.list }
+    ensures answer { AnswersStmts 0 tokens.now.text tokens.now.list rules.stmts_to_end at result }
+    ensures ahead { IfOk result (λ r. GoesOn tokens.now.list at r) }
+{
+    if is_word(tokens, at, b"end") {
+        Ok((Items::new(alloc), at + 1))
+    } else {
+        Err(refused(begins_stmt(tokens, at), at))
+    }
+}
+
 /// Statements up to the `end` behind them.
 #[cycle(statements)]
 fn stmts_to_end(
@@ -122,6 +137,9 @@ fn stmts_to_end(
     ensures answer { AnswersStmts left tokens.now.text tokens.now.list rules.stmts_to_end at result }
     ensures ahead { IfOk result (λ r. GoesOn tokens.now.list at r) }
 {
+    if left == 0 {
+        return no_stmts(alloc, tokens, at);
+    }
     let mut list = Items::new(alloc);
     let mut end = at;
     'entries: while !is_word(tokens, end, b"end") {
@@ -152,7 +170,8 @@ fn branches(
     at: usize,
     left: u32,
 ) -> Result<((Boxed<Stmt>, Option<Boxed<Stmt>>), usize), SyntaxError>
-    requires { at ≤ length tokens.now.list }
+    requires place { at ≤ length tokens.now.list }
+    requires room { 0 < left }
     ensures answer { AnswersStmts left tokens.now.text tokens.now.list rules.branches at result }
     ensures ahead { IfOk result (λ r. GoesOn tokens.now.list at r) }
 {
@@ -172,7 +191,8 @@ fn choice(
     at: usize,
     left: u32,
 ) -> Result<(Stmt, usize), SyntaxError>
-    requires { at ≤ length tokens.now.list }
+    requires place { at ≤ length tokens.now.list }
+    requires room { 0 < left }
     ensures answer { AnswersStmts left tokens.now.text tokens.now.list rules.choice at result }
     ensures ahead { IfOk result (λ r. GoesOn tokens.now.list at r) }
 {
@@ -227,7 +247,8 @@ fn default_arm(
     at: usize,
     left: u32,
 ) -> Result<(Arm, usize), SyntaxError>
-    requires { at ≤ length tokens.now.list }
+    requires place { at ≤ length tokens.now.list }
+    requires room { 0 < left }
     ensures answer { AnswersStmts left tokens.now.text tokens.now.list rules.default_arm at result }
     ensures ahead { IfOk result (λ r. GoesOn tokens.now.list at r) }
 {
@@ -245,7 +266,8 @@ fn labelled_arm(
     left: u32,
     wild: bool,
 ) -> Result<(Arm, usize), SyntaxError>
-    requires { at ≤ length tokens.now.list }
+    requires place { at ≤ length tokens.now.list }
+    requires room { 0 < left }
     ensures answer { AnswersStmts left tokens.now.text tokens.now.list (rules.labelled_arm wild) at result }
     ensures ahead { IfOk result (λ r. GoesOn tokens.now.list at r) }
 {
@@ -263,7 +285,8 @@ fn arm(
     left: u32,
     wild: bool,
 ) -> Result<(Arm, usize), SyntaxError>
-    requires { at ≤ length tokens.now.list }
+    requires place { at ≤ length tokens.now.list }
+    requires room { 0 < left }
     ensures answer { AnswersStmts left tokens.now.text tokens.now.list (rules.arm wild) at result }
     ensures ahead { IfOk result (λ r. GoesOn tokens.now.list at r) }
 {
@@ -283,7 +306,8 @@ fn arms(
     left: u32,
     wild: bool,
 ) -> Result<(Items<Arm>, usize), SyntaxError>
-    requires { at ≤ length tokens.now.list }
+    requires place { at ≤ length tokens.now.list }
+    requires room { 0 < left }
     ensures answer { AnswersStmts left tokens.now.text tokens.now.list (rules.arms wild) at result }
     ensures ahead { IfOk result (λ r. GoesOn tokens.now.list at r) }
 {
@@ -318,7 +342,8 @@ fn cases(
     left: u32,
     wild: bool,
 ) -> Result<(Stmt, usize), SyntaxError>
-    requires { at ≤ length tokens.now.list }
+    requires place { at ≤ length tokens.now.list }
+    requires room { 0 < left }
     ensures answer { AnswersStmts left tokens.now.text tokens.now.list (rules.cases wild) at result }
     ensures ahead { IfOk result (λ r. GoesOn tokens.now.list at r) }
 {
@@ -369,7 +394,8 @@ fn stmt_body(
     at: usize,
     left: u32,
 ) -> Result<(Stmt, usize), SyntaxError>
-    requires { at ≤ length tokens.now.list }
+    requires place { at ≤ length tokens.now.list }
+    requires room { nests (from tokens.now.text tokens.now.list at) ≡ true → 0 < left }
     ensures answer { AnswersStmts left tokens.now.text tokens.now.list rules.stmt_rule at result }
     ensures ahead { IfOk result (λ r. GoesOn tokens.now.list at r) }
 {
@@ -418,6 +444,28 @@ fn begins_stmt(tokens: &Tokens, at: usize) -> bool
         || begins_simple(tokens, at)
 }
 
+fn begins_branch(tokens: &Tokens, at: usize) -> bool
+    ensures { result ≡ (stands (shapes.word (codes "if")) (from tokens.now.text tokens.now.list at) || stands (shapes.word (codes "for")) (from tokens.now.text tokens.now.list at)) }
+{
+    is_word(tokens, at, b"if") || is_word(tokens, at, b"for")
+}
+
+/// Whether a statement begins there in which another one stands.
+fn begins_nest(tokens: &Tokens, at: usize) -> bool
+    ensures { result ≡ nests (from tokens.now.text tokens.now.list at) }
+{
+    begins_cases(tokens, at) || begins_branch(tokens, at)
+}
+
+/// Whether no other may stand in it, though one has to.
+fn is_last(tokens: &Tokens, at: usize, left: u32) -> bool
+    requires { 0 < left }
+    ensures last { result ≡ true → (left ≡ 1) × (nests (from tokens.now.text tokens.now.list at) ≡ true) }
+    ensures more { result ≡ false → nests (from tokens.now.text tokens.now.list at) ≡ true → 1 < left }
+{
+    left == 1 && begins_nest(tokens, at)
+}
+
 /// A statement, where so many may nest with itself.
 #[cycle(statements)]
 pub fn stmt(
@@ -426,12 +474,13 @@ pub fn stmt(
     at: usize,
     left: u32,
 ) -> Result<(Stmt, usize), SyntaxError>
-    requires { at ≤ length tokens.now.list }
+    requires place { at ≤ length tokens.now.list }
+    requires room { 0 < left }
     ensures answer { AnswersStmts left tokens.now.text tokens.now.list (call shapes.stmt) at result }
     ensures ahead { IfOk result (λ r. GoesOn tokens.now.list at r) }
 {
-    if left == 0 {
-        Err(refused(begins_stmt(tokens, at), at))
+    if is_last(tokens, at, left) {
+        Err(SyntaxError::Depth(at))
     } else {
         stmt_body(alloc, tokens, at, left - 1)
     }

@@ -1,6 +1,6 @@
 //! What an assignment writes (IEEE 1364-2005, annex A.8.5).
 
-ghost use Rattle.std.specs.Prelude.{◌≡◌, ◌≤◌, length, IfOk, cond};
+ghost use Rattle.std.specs.Prelude.{◌≡◌, ◌≤◌, ◌<◌, length, IfOk, cond};
 ghost use Rattle.lv_viable.specs.Grammar.{call};
 ghost use Rattle.lv_grammar.specs.Shapes as shapes;
 ghost use Rattle.lv_grammar.specs.Rules as rules;
@@ -41,7 +41,8 @@ fn targets(
     at: usize,
     left: u32,
 ) -> Result<(Items<Target>, usize), SyntaxError>
-    requires { at ≤ length tokens.now.list }
+    requires place { at ≤ length tokens.now.list }
+    requires room { 0 < left }
     ensures answer { AnswersTargets left tokens.now.text tokens.now.list rules.targets at result }
     ensures ahead { IfOk result (λ r. GoesOn tokens.now.list at r) }
 {
@@ -63,7 +64,8 @@ fn joined(
     at: usize,
     left: u32,
 ) -> Result<(Target, usize), SyntaxError>
-    requires { at ≤ length tokens.now.list }
+    requires place { at ≤ length tokens.now.list }
+    requires room { 0 < left }
     ensures answer { AnswersTargets left tokens.now.text tokens.now.list rules.joined at (placed_result tokens.now.text tokens.now.list at result) }
     ensures ahead { IfOk result (λ r. GoesOn tokens.now.list at r) }
 {
@@ -81,14 +83,15 @@ pub fn target(
     at: usize,
     left: u32,
 ) -> Result<(Target, usize), SyntaxError>
-    requires { at ≤ length tokens.now.list }
+    requires place { at ≤ length tokens.now.list }
+    requires room { 0 < left }
     ensures answer { AnswersTargets left tokens.now.text tokens.now.list (call shapes.target) at (placed_result tokens.now.text tokens.now.list at result) }
     ensures ahead { IfOk result (λ r. GoesOn tokens.now.list at r) }
 {
-    if left == 0 {
-        return Err(refused(begins_target(tokens, at), at));
-    }
     if is_mark(tokens, at, b"{") {
+        if left == 1 {
+            return Err(SyntaxError::Depth(at));
+        }
         return joined(alloc, tokens, at, left - 1);
     }
     let ((path, selects), end) = named(alloc, tokens, at)?;

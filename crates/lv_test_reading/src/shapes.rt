@@ -85,9 +85,19 @@ const HEIGHTS: &str = r#"accepted|199|module m; always @* |begin |;| end| endmod
 depth 206|200|module m; always @* |begin |;| end| endmodule
 depth 206|201|module m; always @* |begin |;| end| endmodule
 accepted|199|module m; always @* |if (a) |;|| endmodule
-depth 806|200|module m; always @* |if (a) |;|| endmodule
+depth 802|200|module m; always @* |if (a) |;|| endmodule
+accepted|199|module m; always @* |if (a) ; else |;|| endmodule
+depth 1200|200|module m; always @* |if (a) ; else |;|| endmodule
+accepted|199|module m; always @* |case (a) a : |;| endcase| endmodule
+depth 1200|200|module m; always @* |case (a) a : |;| endcase| endmodule
+accepted|199|module m; always @* |casez (a) default |;| endcase| endmodule
+depth 1001|200|module m; always @* |casez (a) default |;| endcase| endmodule
+accepted|199|module m; always @* |for (i = 0; i < 2; i = i + 1) |;|| endmodule
+depth 3190|200|module m; always @* |for (i = 0; i < 2; i = i + 1) |;|| endmodule
 accepted|199|module m; always @* |{|a|}| = b; endmodule
-depth 206|200|module m; always @* |{|a|}| = b; endmodule
+depth 205|200|module m; always @* |{|a|}| = b; endmodule
+accepted|199|module m; assign |{|a|}| = b; endmodule
+depth 203|200|module m; assign |{|a|}| = b; endmodule
 accepted|199|module m; |for (i = 0; i < 2; i = i + 1) begin : g |wire a;| end| endmodule
 depth 3803|200|module m; |for (i = 0; i < 2; i = i + 1) begin : g |wire a;| end| endmodule
 accepted|199|module m; wire a = |(b + |b|)|; endmodule

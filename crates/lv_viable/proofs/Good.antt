@@ -4,7 +4,7 @@ use Rattle.lv_viable.specs.Grammar.{Base, Gram, call, both, many, until, tail}
 use Rattle.lv_viable.specs.Spelling.{allows, Rules, Language, inner}
 use Rattle.lv_viable.specs.Sets.{some_of, among, shapes, these, Table, is_in, apart, may_be_empty, first, next, is_good}
 use Rattle.lv_viable.specs.Nexts.{Next, LacksAll, lacks_none, lacks_also, Lacks, Opens, Outside}
-use Rattle.lv_viable.specs.Reading.{Fails, PassesLimit}
+use Rattle.lv_viable.specs.Reading.{Fails, Passes}
 use Rattle.lv_viable.specs.Facts.{IsBase, IsLanguage, IsWithin, Facts}
 use Rattle.lv_viable.proofs.Lists.{true_false, of_not, not_or, same_head, nil_cons}
 use Rattle.lv_viable.proofs.SetLaws.{apart_is, of_one}
@@ -75,7 +75,7 @@ module _ {b : Base} {t : Table b} {all low : Language b} (s : Setting b t all lo
   call_outside r f = fails_outside refl refl f
 
   -- where one does, in a rule that the limits don't allow, a limit is passed
-  pub call_passes : (r : b.Rule) {ts : List b.Token} → allows (low.limits (b.count r)) ≡ false → Opens b all (call r) ts → PassesLimit b all low (call r) ts ts
+  pub call_passes : (r : b.Rule) {ts : List b.Token} → allows (low.limits (b.count r)) ≡ false → Opens b all (call r) ts → Passes b all low (call r) ts ts
   call_passes r {ts} a o = call_high s.within r ts a o
 
   -- the next token is of a shape of which it is computed, n rules deep, that trees begin with it

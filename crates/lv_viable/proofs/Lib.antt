@@ -10,6 +10,7 @@ pub mod Pairs
 pub mod Straight
 pub mod Choices
 pub mod Repeats
+pub mod Starved
 pub mod Loops
 pub mod Tails
 pub mod Rules

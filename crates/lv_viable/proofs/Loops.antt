@@ -1,11 +1,11 @@
 -- Readers that append each tree that they read to a list.
-use Rattle.std.proofs.Common.{List, [], ◌∷◌, ◌++◌, ap, sym, subst, append_assoc, append-nil}
+use Rattle.std.proofs.Common.{List, [], ◌∷◌, ◌++◌, false, refl, ap, sym, subst, append_assoc, append-nil}
 use Rattle.lv_viable.specs.Grammar.{Base, Gram, many, until}
 use Rattle.lv_viable.specs.Spelling.{Language}
 use Rattle.lv_viable.specs.Nexts.{Opens}
 use Rattle.lv_viable.specs.Reading.{Reads, Fails, PassesLimit}
 use Rattle.lv_viable.specs.At.{At, Standing, StandingUntil}
-use Rattle.lv_viable.proofs.Readers.{Absent}
+use Rattle.lv_viable.proofs.Readers.{Spelled, Absent}
 use Rattle.lv_viable.proofs.Pairs.{Both}
 use Rattle.lv_viable.proofs.Straight.{start, onward, rebuilt, step, stops, is_high}
 use Rattle.lv_viable.proofs.Repeats.{many_more, many_none, until_more, until_end}
@@ -26,7 +26,7 @@ stand_fails {low = low} s o k r = stops (onward s.at (many_more low o)) k r
 
 pub stand_high : {b : Base} {all low : Language b} {A : Type 0} {g : Gram b A} {ts us rest : List b.Token} {xs : List A} →
     Standing b all low g ts us xs → Opens b all g us → Both b all low g (many g) → PassesLimit b all low g us rest → PassesLimit b all low (many g) ts rest
-stand_high {low = low} s o k r = is_high (onward s.at (many_more low o)) k r
+stand_high {low = low} s o k r = is_high (onward s.at (many_more low o)) k ([], (false, [], (refl, refl))) r
 
 pub stand_done : {b : Base} {all low : Language b} {A : Type 0} {g : Gram b A} {ts us : List b.Token} {xs : List A} →
     Standing b all low g ts us xs → Absent b all low g us → Reads b all low (many g) ts xs us
@@ -47,8 +47,8 @@ pub until_fails : {b : Base} {all low : Language b} {A B : Type 0} {g : Gram b A
 until_fails {g = g} s o k r = stops (onward s.at (until_more g o)) k r
 
 pub until_high : {b : Base} {all low : Language b} {A B : Type 0} {g : Gram b A} {h : Gram b B} {ts us rest : List b.Token} {xs : List A} →
-    StandingUntil b all low g h ts us xs → Absent b all low h us → Both b all low g (until g h) → PassesLimit b all low g us rest → PassesLimit b all low (until g h) ts rest
-until_high {g = g} s o k r = is_high (onward s.at (until_more g o)) k r
+    StandingUntil b all low g h ts us xs → Absent b all low h us → Both b all low g (until g h) → (vs : List b.Token) × Spelled b low h vs → PassesLimit b all low g us rest → PassesLimit b all low (until g h) ts rest
+until_high {g = g} s o k w r = is_high (onward s.at (until_more g o)) k (w.0, (w.1.0, ([], w.1.1), ([], w.0, false, refl, (refl, refl), w.1.2))) r
 
 pub until_done : {b : Base} {all low : Language b} {A B : Type 0} {g : Gram b A} {h : Gram b B} {ts us : List b.Token} {xs : List A} →
     StandingUntil b all low g h ts us xs → Absent b all low g us → At b all low (until g h) ts low h us (λ y. (xs, y))

@@ -4,7 +4,7 @@ use Rattle.std.proofs.Common.{sym, ◌∙◌, subst, append_assoc, append-nil}
 use Rattle.lv_viable.specs.Grammar.{Base, Gram}
 use Rattle.lv_viable.specs.Spelling.{Language, IsSpelled}
 use Rattle.lv_viable.specs.Sets.{Table}
-use Rattle.lv_viable.specs.Reading.{Reads, Fails, PassesLimit}
+use Rattle.lv_viable.specs.Reading.{Reads, Fails, Passes}
 use Rattle.lv_viable.specs.Facts.{IsWithin, Facts}
 use Rattle.lv_viable.proofs.Lists.{same, longer, shorter, cuts}
 use Rattle.lv_viable.proofs.Calls.{is_within}
@@ -39,7 +39,7 @@ module _ (b : Base) (all low : Language b) (w : IsWithin b low all) where
   pub reads_not_fails : {A : Type 0} (g : Gram b A) (ts us rest : List b.Token) (x : A) → Reads b all low g ts x us → Fails b all g ts rest → ⊥
   reads_not_fails g ts us rest x p q = q.none x us (read_without g ts us x p)
 
-  pub reads_not_passes : {A : Type 0} (g : Gram b A) (ts us rest : List b.Token) (x : A) → Reads b all low g ts x us → PassesLimit b all low g ts rest → ⊥
+  pub reads_not_passes : {A : Type 0} (g : Gram b A) (ts us rest : List b.Token) (x : A) → Reads b all low g ts x us → Passes b all low g ts rest → ⊥
   reads_not_passes g ts us rest x p q = elim (cuts p.front us (q.front ++ (q.token ∷ [])) q.others (sym p.cut ∙ q.cut ∙ sym (append_assoc q.front (q.token ∷ []) q.others))) [
     | same a c ↦ q.high (record {
       more = [];

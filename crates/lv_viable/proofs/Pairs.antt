@@ -2,7 +2,7 @@
 use Rattle.std.proofs.Common.{◌≡◌, List, [], ◌∷◌, ◌++◌, refl, ap, sym, subst, ◌∙◌, append_assoc, append-nil}
 use Rattle.lv_viable.specs.Grammar.{Base, Gram, both}
 use Rattle.lv_viable.specs.Spelling.{Language, last_open}
-use Rattle.lv_viable.specs.Reading.{Begins, Reads, Fails, PassesLimit}
+use Rattle.lv_viable.specs.Reading.{Begins, Reads, Fails, Passes, Within}
 use Rattle.lv_viable.specs.At.{At}
 use Rattle.lv_viable.proofs.Lists.{Cuts, cuts, longer, same, shorter}
 use Rattle.lv_viable.proofs.Readers.{Spelled, begun}
@@ -47,6 +47,10 @@ past {b} {l} {A} {g} ts us m t e c =
 
 pub whole : {b : Base} {l : Language b} {A : Type 0} {g : Gram b A} (ts : List b.Token) → Spelled b l g ts → Begins b l g ts
 whole {b} {l} {A} {g} ts c = begun ts [] (subst (λ (v : List b.Token). Spelled b l g v) (sym (append-nil ts)) c)
+
+-- the first begins within the limits, and the second has a tree within them
+pub within_both : {b : Base} {low : Language b} {A B : Type 0} {g : Gram b A} {h : Gram b B} {ts rest : List b.Token} → (us : List b.Token) × Spelled b low h us → Within b low g ts rest → Within b low (both g h) ts rest
+within_both w r = record { front = r.front; cut = r.cut; alive = begins_left r.front w.0 w.1 r.alive }
 
 -- Where a tree of g ends, and goes on with no next token, the second of two trees begins.
 module _ (b : Base) (all low : Language b) {A B : Type 0} (g : Gram b A) (h : Gram b B) (k : Both b all low g h) where
@@ -108,6 +112,11 @@ module _ (b : Base) (all low : Language b) {A B : Type 0} (g : Gram b A) (h : Gr
       at = r.at;
       alive = subst (λ (v : List b.Token). Begins b all (both g h) v) (sym (append_assoc p.front r.front (r.token ∷ []))) (begins_right p.front (r.front ++ (r.token ∷ [])) first r.alive);
       high = λ c. r.high (second low r.front (r.token ∷ r.others) r.token r.others r.cut refl k.left k.right c);
+    };
+    within = λ rest r. record {
+      front = p.front ++ r.front;
+      cut = p.cut ∙ ap (λ v. p.front ++ v) r.cut ∙ sym (append_assoc p.front r.front rest);
+      alive = begins_right p.front r.front (p.ending, x, p.spelled) r.alive;
     };
   }
     where
@@ -196,7 +205,7 @@ module _ (b : Base) (all low : Language b) {A B : Type 0} (g : Gram b A) (h : Gr
           go us' (t ∷ vs') c d e = read us' vs' t c d (vs' ++ others) (q.cut ∙ ap (λ v. v ++ others) e ∙ append_assoc us' (t ∷ vs') others)
 
   -- the first passes a limit
-  pub passes : (ts rest : List b.Token) → PassesLimit b all low g ts rest → PassesLimit b all low (both g h) ts rest
+  pub passes : (ts rest : List b.Token) → Passes b all low g ts rest → Passes b all low (both g h) ts rest
   passes ts rest p = record {
     front = p.front;
     token = p.token;

@@ -136,6 +136,9 @@ at_case {b} {all} {low} {inner} {A} {B} {h} {g} {see} {ts} k = record {
     alive = begun (r.front ++ (r.token ∷ [])) r.alive.more (k.into_all ((r.front ++ (r.token ∷ [])) ++ r.alive.more) (r.alive.ending, r.alive.tree, r.alive.spelled));
     high = λ c. r.high (from_low r.front (r.token ∷ r.others) r.token r.others r.cut refl c);
   };
+  within = λ rest r.
+      let p : (p : Bool) × IsSpelled b low h (r.front ++ r.alive.more) p (see r.alive.tree) = k.into_low (r.front ++ r.alive.more) r.alive.ending r.alive.tree r.alive.spelled in
+      record { front = r.front; cut = r.cut; alive = begun r.front r.alive.more (p.0, see r.alive.tree, p.1) };
 }
   where
     from_all : (front rest : List b.Token) (t : b.Token) (us : List b.Token) → ts ≡ front ++ rest → rest ≡ t ∷ us → Begins b all h (front ++ (t ∷ [])) → Begins b all g (front ++ (t ∷ []))

@@ -7,6 +7,9 @@ use Rattle.lv_viable.specs.Nexts.{Opens, Outside}
 use Rattle.lv_viable.specs.Reading.{Reads, Fails, PassesLimit}
 use Rattle.lv_viable.specs.At.{Way, Standing, StandingUntil}
 use Rattle.lv_viable.proofs.Lists.{of_not}
+use Rattle.lv_viable.proofs.Readers.{Spelled}
+use Rattle.lv_viable.proofs.Starved.{until_starved}
+use Rattle.lv_viable.proofs.Opening.{tree}
 use Rattle.lv_viable.proofs.Grammars.{four_true, nine_true}
 use Rattle.lv_viable.proofs.Loops.{stand_more, stand_fails, stand_high, stand_done, until_next, until_fails, until_high, until_done}
 use Rattle.lv_viable.proofs.Good.{Setting, absent_of, many_both, until_both}
@@ -64,10 +67,10 @@ one_stops {b} {t} {g = g} {h = h} s z w f r =
 
 -- one more passes a limit
 pub one_high : {b : Base} {t : Table b} {all low : Language b} {A B : Type 0} {g : Gram b A} {h : Gram b B} {ts us rest : List b.Token} {xs : List A} →
-    Setting b t all low → is_good b t (until g h) ≡ true → StandingUntil b all low g h ts us xs → Outside b t h us → PassesLimit b all low g us rest → PassesLimit b all low (until g h) ts rest
-one_high {b} {t} {g = g} {h = h} s z w f r =
+    Setting b t all low → is_good b t (until g h) ≡ true → StandingUntil b all low g h ts us xs → Outside b t h us → (vs : List b.Token) × Spelled b low h vs → PassesLimit b all low g us rest → PassesLimit b all low (until g h) ts rest
+one_high {b} {t} {g = g} {h = h} s z w f v r =
     let k : (is_good b t g ≡ true) × (is_good b t h ≡ true) × (may_be_empty b g ≡ false) × (may_be_empty b h ≡ false) = until_good b t g h z in
-    until_high w (absent_of s k.1 k.3 f) (until_both s z) r
+    until_high w (absent_of s k.1 k.3 f) (until_both s z) v r
 
 -- no more begins: what ends them is left
 pub ending : {b : Base} {t : Table b} {all low : Language b} {A B : Type 0} {g : Gram b A} {h : Gram b B} {ts us : List b.Token} {xs : List A} →
@@ -75,3 +78,10 @@ pub ending : {b : Base} {t : Table b} {all low : Language b} {A B : Type 0} {g :
 ending {b} {t} {g = g} {h = h} s z w f =
     let k : (is_good b t g ≡ true) × (is_good b t h ≡ true) × (may_be_empty b g ≡ false) × (may_be_empty b h ≡ false) = until_good b t g h z in
     record { at = until_done w (absent_of s k.0 k.2 f); good = k.1 }
+
+-- one begins, and none is within the limits
+pub none_within : {b : Base} {t : Table b} {all low : Language b} {A B : Type 0} {g : Gram b A} {h : Gram b B} {ts : List b.Token} →
+    Setting b t all low → is_good b t (until g h) ≡ true → Outside b t h ts → Opens b all g ts → ((us : List b.Token) → Spelled b low g us → ⊥) → (us : List b.Token) × Spelled b low h us → PassesLimit b all low (until g h) ts ts
+none_within {b} {t} {all} {g = g} {h = h} s z f o n w =
+    let k : (is_good b t g ≡ true) × (is_good b t h ≡ true) × (may_be_empty b g ≡ false) × (may_be_empty b h ≡ false) = until_good b t g h z in
+    until_starved (absent_of s k.1 k.3 f) o n (tree b t all s.base s.language h) w

@@ -1,14 +1,15 @@
 -- Readers of a rule, from readers of its grammar.
-use Rattle.std.proofs.Common.{◌≡◌, List, [], ◌∷◌, ◌++◌, true, false, sym, subst}
+use Rattle.std.proofs.Common.{◌≡◌, List, [], ◌∷◌, true, false, sym, subst}
 use Rattle.lv_viable.specs.Grammar.{Base, call}
 use Rattle.lv_viable.specs.Spelling.{Rules, Language, IsSpelled, allows, inner}
 use Rattle.lv_viable.specs.Nexts.{Opens}
-use Rattle.lv_viable.specs.Reading.{PassesLimit}
+use Rattle.lv_viable.specs.Reading.{Passes}
 use Rattle.lv_viable.specs.Facts.{IsWithin}
 use Rattle.lv_viable.specs.At.{At}
 use Rattle.lv_viable.proofs.Lists.{true_false}
 use Rattle.lv_viable.proofs.Calls.{called_is, is_called, free_called_is, free_is_called}
 use Rattle.lv_viable.proofs.Readers.{Spelled, at_case}
+use Rattle.lv_viable.proofs.Starved.{starved}
 
 module _ {b : Base} {all low : Language b} (w : IsWithin b low all) (r : b.Rule) where
   -- a rule is its grammar, without limits
@@ -29,13 +30,8 @@ module _ {b : Base} {all low : Language b} (w : IsWithin b low all) (r : b.Rule)
   })
 
   -- they don't
-  pub call_high : (ts : List b.Token) → allows (low.limits (b.count r)) ≡ false → Opens b all (call r) ts → PassesLimit b all low (call r) ts ts
-  call_high ts a o = record {
-    front = [];
-    token = o.token;
-    others = o.others;
-    cut = o.cut;
-    at = o.cut;
-    alive = o.alive;
-    high = λ c. true_false (allows (low.limits (b.count r))) (called_is b low r ((o.token ∷ []) ++ c.more) c.ending c.tree c.spelled).0 a;
-  }
+  pub call_none : allows (low.limits (b.count r)) ≡ false → (us : List b.Token) → Spelled b low (call r) us → ⊥
+  call_none a us c = true_false (allows (low.limits (b.count r))) (called_is b low r us c.0 c.1 c.2).0 a
+
+  pub call_high : (ts : List b.Token) → allows (low.limits (b.count r)) ≡ false → Opens b all (call r) ts → Passes b all low (call r) ts ts
+  call_high ts a o = starved o (call_none a)

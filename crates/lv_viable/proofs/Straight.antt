@@ -4,12 +4,12 @@ use Rattle.lv_viable.specs.Grammar.{Base, Gram, both, act}
 use Rattle.lv_viable.specs.Spelling.{Language}
 use Rattle.lv_viable.specs.Reading.{Reads, Fails, PassesLimit}
 use Rattle.lv_viable.specs.At.{At}
-use Rattle.lv_viable.proofs.Readers.{act_at}
+use Rattle.lv_viable.proofs.Readers.{Spelled, act_at}
 use Rattle.lv_viable.proofs.Pairs
-use Rattle.lv_viable.proofs.Pairs.{Both}
+use Rattle.lv_viable.proofs.Pairs.{Both, within_both}
 
 pub start : {b : Base} {all low : Language b} {A : Type 0} (g : Gram b A) (ts : List b.Token) → At b all low g ts low g ts (λ x. x)
-start g ts = record { reads = λ y rest r. r; fails = λ rest r. r; passes = λ rest r. r }
+start g ts = record { reads = λ y rest r. r; fails = λ rest r. r; passes = λ rest r. r; within = λ rest r. r }
 
 -- one way behind the other
 pub onward : {b : Base} {all low inner innermost : Language b} {A B C : Type 0} {g : Gram b A} {h : Gram b B} {i : Gram b C} {ts us vs : List b.Token} {build : B → A} {make : C → B} →
@@ -18,6 +18,7 @@ onward {make = make} a c = record {
   reads = λ y rest r. a.reads (make y) rest (c.reads y rest r);
   fails = λ rest r. a.fails rest (c.fails rest r);
   passes = λ rest r. a.passes rest (c.passes rest r);
+  within = λ rest r. a.within rest (c.within rest r);
 }
 
 -- the same trees, said otherwise
@@ -27,6 +28,7 @@ rebuilt {b} {all} {low} {g = g} {ts = ts} again e a = record {
   reads = λ y rest r. subst (λ x. Reads b all low g ts x rest) (e y) (a.reads y rest r);
   fails = λ rest r. a.fails rest r;
   passes = λ rest r. a.passes rest r;
+  within = λ rest r. a.within rest r;
 }
 
 -- the next part is read
@@ -39,10 +41,16 @@ pub stops : {b : Base} {all low inner : Language b} {A B C : Type 0} {g : Gram b
     At b all low g ts inner (both p h) us build → Both b all inner p h → Fails b all p us rest → Fails b all g ts rest
 stops {b} {all} {low} {inner} {A} {B} {C} {g} {p} {h} {ts} {us} {rest} a k r = a.fails rest (Pairs.fails b all inner p h k us rest r)
 
--- the next part passes a limit
+-- what is left passes a limit
+pub all_high : {b : Base} {all low inner : Language b} {A B : Type 0} {g : Gram b A} {h : Gram b B} {ts us rest : List b.Token} {build : B → A} →
+    At b all low g ts inner h us build → PassesLimit b all inner h us rest → PassesLimit b all low g ts rest
+all_high {rest = rest} a r = record { passes = a.passes rest r.passes; within = a.within rest r.within }
+
+-- the next part passes a limit, and what is behind it has a tree within the limits
 pub is_high : {b : Base} {all low inner : Language b} {A B C : Type 0} {g : Gram b A} {p : Gram b B} {h : Gram b C} {ts us rest : List b.Token} {build : B × C → A} →
-    At b all low g ts inner (both p h) us build → Both b all inner p h → PassesLimit b all inner p us rest → PassesLimit b all low g ts rest
-is_high {b} {all} {low} {inner} {A} {B} {C} {g} {p} {h} {ts} {us} {rest} a k r = a.passes rest (Pairs.passes b all inner p h k us rest r)
+    At b all low g ts inner (both p h) us build → Both b all inner p h → (vs : List b.Token) × Spelled b inner h vs → PassesLimit b all inner p us rest → PassesLimit b all low g ts rest
+is_high {b} {all} {low} {inner} {A} {B} {C} {g} {p} {h} {ts} {us} {rest} a k w r =
+    all_high a (record { passes = Pairs.passes b all inner p h k us rest r.passes; within = within_both w r.within })
 
 -- the part is another's trees, seen by f
 pub seen : {b : Base} {all low inner : Language b} {A B C : Type 0} {g : Gram b A} {h : Gram b B} {ts us : List b.Token} {f : B → C} {build : C → A} →

@@ -3,7 +3,7 @@ use Rattle.std.proofs.Common.{◌≡◌, List, [], ◌∷◌, ◌++◌, Bool, tr
 use Rattle.lv_viable.specs.Grammar.{Base, Gram, call, tail}
 use Rattle.lv_viable.specs.Spelling.{Language, IsSpelled}
 use Rattle.lv_viable.specs.Nexts.{Next, Lacks}
-use Rattle.lv_viable.specs.Reading.{Begins, Reads, Fails, PassesLimit}
+use Rattle.lv_viable.specs.Reading.{Begins, Reads, Fails, Passes, Within}
 use Rattle.lv_viable.specs.At.{At}
 use Rattle.lv_viable.proofs.Lists.{Cuts, cuts, longer, same, shorter, true_false}
 use Rattle.lv_viable.proofs.Readers.{Spelled, begun}
@@ -40,6 +40,10 @@ with_tail b l r p h us t vs x s f c = record {
   tree = (x, Some c.tree);
   spelled = (us, t, vs ++ c.more, append_assoc us (t ∷ vs) c.more, s, f, c.spelled);
 }
+
+-- the rule's tree begins within the limits
+pub within_tail : {b : Base} {low : Language b} {B : Type 0} {r : b.Rule} {p : b.Shape} {h : Gram b B} {ts rest : List b.Token} → Within b low (call r) ts rest → Within b low (tail r p h) ts rest
+within_tail {b} {low} {r = r} {p = p} {h = h} a = record { front = a.front; cut = a.cut; alive = bared b low r p h a.front a.alive }
 
 module _ (b : Base) (all low : Language b) {B : Type 0} (r : b.Rule) (p : b.Shape) (h : Gram b B) (k : Tail b all low r p h) where
   -- a tree with a tail, where a tree ends that goes on with no next token
@@ -87,6 +91,11 @@ module _ (b : Base) (all low : Language b) {B : Type 0} (r : b.Rule) (p : b.Shap
       at = a.at;
       alive = subst (λ (v : List b.Token). Begins b all (tail r p h) v) (sym (append_assoc q.front (t ∷ a.front) (a.token ∷ []))) (with_tail b all r p h q.front t (a.front ++ (a.token ∷ [])) x first f a.alive);
       high = λ c. a.high (second low a.front a.token k.left k.right c);
+    };
+    within = λ rest a. record {
+      front = q.front ++ (t ∷ a.front);
+      cut = q.cut ∙ ap (λ v. q.front ++ (t ∷ v)) a.cut ∙ sym (append_assoc q.front (t ∷ a.front) rest);
+      alive = with_tail b low r p h q.front t a.front x (shut q.ending q.spelled) f a.alive;
     };
   }
     where
@@ -182,7 +191,7 @@ module _ (b : Base) (all low : Language b) {B : Type 0} (r : b.Rule) (p : b.Shap
       nothing others z w (tailed us' n vs' x e d i j) = a.none x (n ∷ (vs' ++ others)) (stands ts us' n (vs' ++ others) x d i (w.cut ∙ ap (λ u. u ++ others) e ∙ append_assoc us' (n ∷ vs') others))
 
   -- the rule's tree passes a limit
-  pub passes : (ts rest : List b.Token) → PassesLimit b all low (call r) ts rest → PassesLimit b all low (tail r p h) ts rest
+  pub passes : (ts rest : List b.Token) → Passes b all low (call r) ts rest → Passes b all low (tail r p h) ts rest
   passes ts rest a = record {
     front = a.front;
     token = a.token;

@@ -8,8 +8,8 @@ use Rattle.lv_viable.specs.Reading.{Reads, Fails, PassesLimit}
 use Rattle.lv_viable.specs.At.{Way}
 use Rattle.lv_viable.proofs.Lists.{and_left, and_right, of_not}
 use Rattle.lv_viable.proofs.Grammars.{four_true, five_true}
-use Rattle.lv_viable.proofs.Readers.{next_read, one_fails}
-use Rattle.lv_viable.proofs.Straight.{start, onward, step, stops, is_high, seen}
+use Rattle.lv_viable.proofs.Readers.{Spelled, next_read, one_fails}
+use Rattle.lv_viable.proofs.Straight.{start, onward, step, stops, all_high, is_high, seen}
 use Rattle.lv_viable.proofs.Choices.{left_at, right_at, perhaps_at, perhaps_none}
 use Rattle.lv_viable.proofs.Tails
 use Rattle.lv_viable.proofs.Rules.{call_at}
@@ -42,10 +42,10 @@ pub stop : {b : Base} {t : Table b} {all low inner : Language b} {A B C : Type 0
     Setting b t all inner → Way b t all low g ts inner (both p h) us build → Fails b all p us rest → Fails b all g ts rest
 stop s w r = stops w.at (both_of s w.good) r
 
--- it passes a limit
+-- it passes a limit, and what is behind it has a tree within the limits
 pub high : {b : Base} {t : Table b} {all low inner : Language b} {A B C : Type 0} {g : Gram b A} {p : Gram b B} {h : Gram b C} {ts us rest : List b.Token} {build : B × C → A} →
-    Setting b t all inner → Way b t all low g ts inner (both p h) us build → PassesLimit b all inner p us rest → PassesLimit b all low g ts rest
-high s w r = is_high w.at (both_of s w.good) r
+    Setting b t all inner → Way b t all low g ts inner (both p h) us build → (vs : List b.Token) × Spelled b inner h vs → PassesLimit b all inner p us rest → PassesLimit b all low g ts rest
+high s w v r = is_high w.at (both_of s w.good) v r
 
 -- the next part by itself
 pub part : {b : Base} {t : Table b} {all low inner : Language b} {A B C : Type 0} {g : Gram b A} {p : Gram b B} {h : Gram b C} {ts us : List b.Token} {build : B × C → A} →
@@ -81,7 +81,7 @@ last_stops {rest = rest} w r = w.at.fails rest r
 
 pub last_high : {b : Base} {t : Table b} {all low inner : Language b} {A B : Type 0} {g : Gram b A} {h : Gram b B} {ts us rest : List b.Token} {build : B → A} →
     Way b t all low g ts inner h us build → PassesLimit b all inner h us rest → PassesLimit b all low g ts rest
-last_high {rest = rest} w r = w.at.passes rest r
+last_high w r = all_high w.at r
 
 -- ---- into a grammar
 
@@ -142,4 +142,5 @@ tail_stops {b} {all = all} {inner = inner} r {p = p} {h = h} {us = us} {rest = r
 
 pub tail_high : {b : Base} {t : Table b} {all low inner : Language b} {A B : Type 0} {g : Gram b A} (r : b.Rule) {p : b.Shape} {h : Gram b B} {ts us rest : List b.Token} {build : b.RuleTree r × Option B → A} →
     Setting b t all inner → Way b t all low g ts inner (tail r p h) us build → PassesLimit b all inner (call r) us rest → PassesLimit b all low g ts rest
-tail_high {b} {all = all} {inner = inner} r {p = p} {h = h} {us = us} {rest = rest} s w q = w.at.passes rest (Tails.passes b all inner r p h (tail_of s w.good) us rest q)
+tail_high {b} {all = all} {inner = inner} r {p = p} {h = h} {us = us} {rest = rest} s w q =
+    all_high w.at (record { passes = Tails.passes b all inner r p h (tail_of s w.good) us rest q.passes; within = Tails.within_tail q.within })

@@ -7,9 +7,10 @@ use Rattle.lv_viable.specs.Facts.{IsBase}
 use Rattle.lv_viable.proofs.Lists.{true_false, and_left, and_right, or_cases}
 use Rattle.lv_viable.proofs.Calls.{inside_free}
 use Rattle.lv_viable.proofs.Known.{HasTree}
+use Rattle.lv_viable.proofs.Readers.{Spelled}
 
 module _ (b : Base) (l : Leaves b) (i : IsBase b) (a : (k : b.Leaf) → (us : List b.Token) × (x : b.LeafTree k) × l k us x) where
-  tree_in : (c : Calls b) (f : b.Rule → Bool) → ((r : b.Rule) → f r ≡ true → HasTree (c r)) → {A : Type 0} (g : Gram b A) → has_tree_in b f g ≡ true → HasTree (Spells b l c g)
+  pub tree_in : (c : Calls b) (f : b.Rule → Bool) → ((r : b.Rule) → f r ≡ true → HasTree (c r)) → {A : Type 0} (g : Gram b A) → has_tree_in b f g ≡ true → HasTree (Spells b l c g)
   tree_in c f k none e = ([], false, tt, (refl, refl))
   tree_in c f k (one p) e = let w : (m : b.Token) × (b.fits p m ≡ true) = i.witness p in (w.0 ∷ [], false, w.0, (refl, w.1, refl))
   tree_in c f k (leaf j) e = let w : (us : List b.Token) × (x : b.LeafTree j) × l j us x = a j in (w.0, false, w.1, (w.2, refl))
@@ -39,3 +40,22 @@ module _ (b : Base) (l : Leaves b) (i : IsBase b) (a : (k : b.Leaf) → (us : Li
 pub witness_of : (b : Base) (l : Language b) → IsBase b → ((k : b.Leaf) → (us : List b.Token) × (x : b.LeafTree k) × l.leaves k us x) → ((j : ℕ) → l.limits j ≡ any) →
     (n : ℕ) (r : b.Rule) → rule_has_tree b l.rules n r ≡ true → (us : List b.Token) × (o : Bool) × (x : b.RuleTree r) × called b l r us o x
 witness_of b l i a f n r e = let w : HasTree (Level b l.leaves l.rules n l.limits r) = tree_level b l.leaves i a l.rules n l.limits f r e in (w.0, w.1, w.2, (n, w.3))
+
+-- ---- within limits
+
+module _ (b : Base) (l : Language b) (i : IsBase b) (a : (k : b.Leaf) → (us : List b.Token) × (x : b.LeafTree k) × l.leaves k us x) where
+  -- from the rules of which each has a tree
+  pub has_tree : (f : b.Rule → Bool) → ((r : b.Rule) → f r ≡ true → (us : List b.Token) × Spelled b l (call r) us) → {A : Type 0} (g : Gram b A) → has_tree_in b f g ≡ true → (us : List b.Token) × Spelled b l g us
+  has_tree f k g e =
+      let w : HasTree (Spells b l.leaves (called b l) g) = tree_in b l.leaves i a (called b l) f (λ r z. some r (k r z)) g e in
+      (w.0, (w.1, w.2, w.3))
+    where
+      some : (r : b.Rule) → (us : List b.Token) × Spelled b l (call r) us → HasTree (called b l r)
+      some r w = (w.0, w.1.0, w.1.1, w.1.2)
+
+  -- a rule that the limits allow, and that has a tree without others
+  pub rule_tree : (r : b.Rule) → allows (l.limits (b.count r)) ≡ true → has_tree_in b (λ q. false) (l.rules r) ≡ true → (us : List b.Token) × Spelled b l (call r) us
+  rule_tree r z e =
+      let w : HasTree (Spells b l.leaves (Level b l.leaves l.rules zero (inside (b.count r) l.limits)) (l.rules r)) =
+      tree_in b l.leaves i a (Level b l.leaves l.rules zero (inside (b.count r) l.limits)) (λ q. false) (λ q n. true_false false n refl) (l.rules r) e in
+      (w.0, (w.1, w.2, (suc zero, (z, w.3))))

@@ -6,7 +6,7 @@ ghost use Rattle.std.specs.Prelude.{◌≡◌, ◌↔◌, ℕ, List, [], ◌∷�
 ghost use Rattle.lv_viable.specs.Grammar.{Base, Gram, left, right, call, both, either, perhaps, many, until, tail};
 ghost use Rattle.lv_viable.specs.Spelling.{Language, any, IsSpelled, called, allows, inner};
 ghost use Rattle.lv_viable.specs.Sets.{Table, Set, is_in, among, union, apart, within, is_good, shapes, rule_has_tree};
-ghost use Rattle.lv_viable.specs.Reading.{Begins, Reads, Fails, PassesLimit};
+ghost use Rattle.lv_viable.specs.Reading.{Begins, Reads, Fails, Passes, PassesLimit};
 ghost use Rattle.lv_viable.specs.Nexts.{Next, Lacks, Outside, Opens};
 ghost use Rattle.lv_viable.specs.At.{At, Standing, StandingUntil};
 ghost use Rattle.lv_viable.specs.Facts.{IsBase, IsLanguage, IsWithin, Facts};
@@ -75,7 +75,8 @@ pub fn parts_are_read_in_turn<X: Spelled>()
     ensures fails { IsBase X.base → IsLanguage X.base X.table X.all → is_good X.base X.table (both X.grammar X.other) ≡ true →
         (ts rest : List X.base.Token) → Fails X.base X.all X.grammar ts rest → Fails X.base X.all (both X.grammar X.other) ts rest }
     ensures passes { IsBase X.base → IsLanguage X.base X.table X.all → is_good X.base X.table (both X.grammar X.other) ≡ true →
-        (ts rest : List X.base.Token) → PassesLimit X.base X.all X.low X.grammar ts rest → PassesLimit X.base X.all X.low (both X.grammar X.other) ts rest }
+        (ts rest us : List X.base.Token) (o : Bool) (y : X) → IsSpelled X.base X.low X.other us o y →
+        PassesLimit X.base X.all X.low X.grammar ts rest → PassesLimit X.base X.all X.low (both X.grammar X.other) ts rest }
 {}
 
 /// Of a choice that answers are the one's for which the next token speaks, and a grammar that may be left out is left out or read.
@@ -103,6 +104,10 @@ pub fn repetitions_are_read_one_by_one<X: Spelled>()
     ensures ended { IsBase X.base → IsLanguage X.base X.table X.all → is_good X.base X.table (until X.grammar X.other) ≡ true →
         (ts us : List X.base.Token) (xs : List X) → StandingUntil X.base X.all X.low X.grammar X.other ts us xs →
         Outside X.base X.table X.grammar us → At X.base X.all X.low (until X.grammar X.other) ts X.low X.other us (λ y. (xs, y)) }
+    ensures barred { IsBase X.base → IsLanguage X.base X.table X.all → is_good X.base X.table (until X.grammar X.other) ≡ true →
+        (ts us : List X.base.Token) (o : Bool) (y : X) → Outside X.base X.table X.other ts → Opens X.base X.all X.grammar ts →
+        ((vs : List X.base.Token) (p : Bool) (x : X) → IsSpelled X.base X.low X.grammar vs p x → ⊥) → IsSpelled X.base X.low X.other us o y →
+        PassesLimit X.base X.all X.low (until X.grammar X.other) ts ts }
 {}
 
 /// A rule is read as its grammar where the limits allow it, and with a tail where its mark is next.
@@ -110,7 +115,7 @@ pub fn rules_are_read_within_limits<X: Spelled>()
     ensures allowed { (r : X.base.Rule) (ts : List X.base.Token) → allows (X.low.limits (X.base.count r)) ≡ true →
         At X.base X.all X.low (call r) ts (inner X.base X.low r) (X.low.rules r) ts (λ x. x) }
     ensures barred { (r : X.base.Rule) (ts : List X.base.Token) → allows (X.low.limits (X.base.count r)) ≡ false →
-        Opens X.base X.all (call r) ts → PassesLimit X.base X.all X.low (call r) ts ts }
+        Opens X.base X.all (call r) ts → Passes X.base X.all X.low (call r) ts ts }
     ensures tailed { IsBase X.base → IsLanguage X.base X.table X.all → (r : X.base.Rule) (p : X.base.Shape) → is_good X.base X.table (tail r p X.other) ≡ true →
         (ts us vs : List X.base.Token) (m : X.base.Token) (x : X.base.RuleTree r) → Reads X.base X.all X.low (call r) ts x us → Next X.base p us m vs →
         At X.base X.all X.low (tail r p X.other) ts X.low X.other vs (λ y. (x, Some y)) }

@@ -11,4 +11,4 @@ pub returns-clause-failure : goal.returns-clause-failure
 returns-clause-failure g c ts us rest x p q = reads_not_fails g.X.Spelled.base g.X.Spelled.all g.X.Spelled.low g.X.Spelled.limited g.X.Spelled.grammar ts us rest x p q
 
 pub returns-clause-passing : goal.returns-clause-passing
-returns-clause-passing g c ts us rest x p q = reads_not_passes g.X.Spelled.base g.X.Spelled.all g.X.Spelled.low g.X.Spelled.limited g.X.Spelled.grammar ts us rest x p q
+returns-clause-passing g c ts us rest x p q = reads_not_passes g.X.Spelled.base g.X.Spelled.all g.X.Spelled.low g.X.Spelled.limited g.X.Spelled.grammar ts us rest x p q.passes

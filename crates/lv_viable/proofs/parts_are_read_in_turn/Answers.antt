@@ -1,4 +1,6 @@
 use Rattle.lv_viable.proofs.Pairs
+use Rattle.lv_viable.proofs.Straight.{start, is_high}
+use Rattle.lv_viable.specs.Grammar.{both}
 use Rattle.lv_viable.proofs.Good.{both_of}
 use Rattle.lv_viable.proofs.parts_are_read_in_turn.Goals as goal
 
@@ -11,5 +13,5 @@ returns-clause-fails g c i a z ts rest p =
     Pairs.fails g.X.Spelled.base g.X.Spelled.all g.X.Spelled.low g.X.Spelled.grammar g.X.Spelled.other (both_of (record { base = i; language = a; within = g.X.Spelled.limited }) z) ts rest p
 
 pub returns-clause-passes : goal.returns-clause-passes
-returns-clause-passes g c i a z ts rest p =
-    Pairs.passes g.X.Spelled.base g.X.Spelled.all g.X.Spelled.low g.X.Spelled.grammar g.X.Spelled.other (both_of (record { base = i; language = a; within = g.X.Spelled.limited }) z) ts rest p
+returns-clause-passes g c i a z ts rest us o y h p =
+    is_high (start {low = g.X.Spelled.low} (both g.X.Spelled.grammar g.X.Spelled.other) ts) (both_of (record { base = i; language = a; within = g.X.Spelled.limited }) z) (us, (o, y, h)) p

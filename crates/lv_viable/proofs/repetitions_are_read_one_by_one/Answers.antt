@@ -1,4 +1,4 @@
-use Rattle.lv_viable.proofs.Rounds.{more, no_more, one_more, ending}
+use Rattle.lv_viable.proofs.Rounds.{more, no_more, one_more, ending, none_within}
 use Rattle.lv_viable.proofs.repetitions_are_read_one_by_one.Goals as goal
 
 pub returns-clause-further : goal.returns-clause-further
@@ -12,3 +12,7 @@ returns-clause-further_until g c i a z ts us vs xs x s f r = one_more (record { 
 
 pub returns-clause-ended : goal.returns-clause-ended
 returns-clause-ended g c i a z ts us xs s f = (ending (record { base = i; language = a; within = g.X.Spelled.limited }) z s f).at
+
+pub returns-clause-barred : goal.returns-clause-barred
+returns-clause-barred g c i a z ts us o y f w n h =
+    none_within (record { base = i; language = a; within = g.X.Spelled.limited }) z f w (λ vs x. n vs x.0 x.1 x.2) (us, (o, y, h))

@@ -1,6 +1,4 @@
-use Rattle.std.proofs.Common.{◌≡◌, ◌≤◌, ◌+◌, ◌-◌, ℕ, ap, sym, subst, ◌∙◌, arith, take, drop, refl, List, false, true}
-use Rattle.lv_exprs.specs.declared.error.SyntaxError.{SyntaxError}
-use Rattle.lv_exprs.specs.declared.error.SyntaxError.TheVariants as error
+use Rattle.std.proofs.Common.{◌≡◌, ◌+◌, ◌-◌, ℕ, ap, sym, subst, ◌∙◌, arith, take, drop, List, false}
 use Rattle.lv_exprs.specs.Definite.{ReadsDefinite, FailsDefinite}
 use Rattle.lv_exprs.specs.Answers.{ReadsLow, Refuses, tokens_from}
 use Rattle.lv_exprs.specs.declared.symbol.Symbol.{Symbol}

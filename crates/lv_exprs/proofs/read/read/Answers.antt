@@ -58,7 +58,7 @@ returns-then-is_high c =
     let k = get_or-map (symbol c.args.text.now) c.args.tokens.now c.loop-at.at _ t.Other c.loop-at-test.true ∙ sym c.symbol.ensures in
     let e = ap (λ u. step.next c.args.text.now c.args.paths u c.loop-at.stack.frames.items c.loop-at.standing) k ∙ sym c.in_ok-other.ensures
     ∙ ap (λ r. step.seen_step r c.take.new.stack.frames.items) c.in-Next.is in
-    inl (is_deep _ _ _ _ _ _ _ _ c.loop-at.invariant.stands (fewer c.args.text.now c.args.tokens.now c.loop-at.at c.loop-at-test.true) e (rw (sym c.limit_of-limit.ensures) (c.is_high.ensures.high c.if-is_high.true)))
+    inl (is_deep _ _ _ _ _ _ _ _ c.loop-at.invariant.stands (fewer c.args.text.now c.args.tokens.now c.loop-at.at c.loop-at-test.true) e c.loop-at.invariant.low (rw (sym c.limit_of-limit.ensures) (c.is_high.ensures.high c.if-is_high.true)))
 
 pub loop-at-preserved : goal.loop-at-preserved
 loop-at-preserved c =

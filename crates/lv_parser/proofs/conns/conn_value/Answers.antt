@@ -16,7 +16,7 @@ pub returns-in_err-value-clause-answer : goal.returns-in_err-value-clause-answer
 returns-in_err-value-clause-answer c = λ d.
     let o = absent c.args.tokens.now.text c.args.tokens.now.list rules.closes c.args.at (shapes.mark (codes ")")) refl (sym c.is_mark.ensures.answer ∙ c.if-is_mark.false) in
     let w = to_right (through (begin rules.conn_end c.args.at refl)) o in
-    exit _ c.from_residual.ensures.1 (refuse w (c.in_err-value.ensures.answer d))
+    exit _ c.from_residual.ensures.1 (refuse w (c.in_err-value.ensures.answer d) refl)
 
 pub returns-in_err-end-clause-answer : goal.returns-in_err-end-clause-answer
 returns-in_err-end-clause-answer c = λ d.

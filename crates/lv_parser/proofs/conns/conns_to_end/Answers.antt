@@ -17,7 +17,7 @@ pub returns-in_err-list-clause-answer : goal.returns-in_err-list-clause-answer
 returns-in_err-list-clause-answer c = λ d.
     let o = absent c.args.tokens.now.text c.args.tokens.now.list rules.closes c.args.at (shapes.mark (codes ")")) refl (sym c.is_mark.ensures.answer ∙ c.if-is_mark.false) in
     let w = to_right (through (begin rules.conns_to_end c.args.at refl)) o in
-    exit _ c.from_residual.ensures.1 (refuse w (c.in_err-list.ensures.answer d))
+    exit _ c.from_residual.ensures.1 (refuse w (c.in_err-list.ensures.answer d) refl)
 
 pub returns-in_err-end-clause-answer : goal.returns-in_err-end-clause-answer
 returns-in_err-end-clause-answer c = λ d.

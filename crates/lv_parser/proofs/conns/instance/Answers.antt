@@ -5,18 +5,18 @@ use Rattle.lv_parser.proofs.Fronts.{exit}
 use Rattle.lv_parser.proofs.conns.instance.Goals as goal
 
 pub returns-in_err-module-clause-answer : goal.returns-in_err-module-clause-answer
-returns-in_err-module-clause-answer c = λ d. exit _ c.from_residual.ensures.1 (refuse (through (begin rules.instance c.args.at refl)) (c.in_err-module.ensures.answer d))
+returns-in_err-module-clause-answer c = λ d. exit _ c.from_residual.ensures.1 (refuse (through (begin rules.instance c.args.at refl)) (c.in_err-module.ensures.answer d) refl)
 
 pub returns-in_err-params-clause-answer : goal.returns-in_err-params-clause-answer
 returns-in_err-params-clause-answer c = λ d.
     let w1 = then (through (begin rules.instance c.args.at refl)) (c.in_ok-module.ensures.answer d) in
-    exit _ c.from_residual-in_err-params.ensures.1 (refuse w1 (c.in_err-params.ensures.answer d))
+    exit _ c.from_residual-in_err-params.ensures.1 (refuse w1 (c.in_err-params.ensures.answer d) refl)
 
 pub returns-in_err-list-clause-answer : goal.returns-in_err-list-clause-answer
 returns-in_err-list-clause-answer c = λ d.
     let w1 = then (through (begin rules.instance c.args.at refl)) (c.in_ok-module.ensures.answer d) in
     let w2 = then w1 (c.in_ok-params.ensures.answer d) in
-    exit _ c.from_residual-in_err-list.ensures.1 (refuse w2 (c.in_err-list.ensures.answer d))
+    exit _ c.from_residual-in_err-list.ensures.1 (refuse w2 (c.in_err-list.ensures.answer d) refl)
 
 pub returns-in_err-end-clause-answer : goal.returns-in_err-end-clause-answer
 returns-in_err-end-clause-answer c = λ d.

@@ -12,18 +12,18 @@ abbrev conn_at : Option Ident → Option Expr → ℕ → Conn
 conn_at name value place = record { name = name; value = value; place = place }
 
 pub returns-in_err-dotted-clause-answer : goal.returns-in_err-dotted-clause-answer
-returns-in_err-dotted-clause-answer c = λ d. exit _ c.from_residual.ensures.1 (refuse (through (begin rules.named_conn c.args.at refl)) (c.in_err-dotted.ensures.answer d))
+returns-in_err-dotted-clause-answer c = λ d. exit _ c.from_residual.ensures.1 (refuse (through (begin rules.named_conn c.args.at refl)) (c.in_err-dotted.ensures.answer d) refl)
 
 pub returns-in_err-name-clause-answer : goal.returns-in_err-name-clause-answer
 returns-in_err-name-clause-answer c = λ d.
     let w1 = then (through (begin rules.named_conn c.args.at refl)) (c.in_ok-dotted.ensures.answer d) in
-    exit _ c.from_residual-in_err-name.ensures.1 (refuse w1 (c.in_err-name.ensures.answer d))
+    exit _ c.from_residual-in_err-name.ensures.1 (refuse w1 (c.in_err-name.ensures.answer d) refl)
 
 pub returns-in_err-inner-clause-answer : goal.returns-in_err-inner-clause-answer
 returns-in_err-inner-clause-answer c = λ d.
     let w1 = then (through (begin rules.named_conn c.args.at refl)) (c.in_ok-dotted.ensures.answer d) in
     let w2 = then w1 (c.in_ok-name.ensures.answer d) in
-    exit _ c.from_residual-in_err-inner.ensures.1 (refuse w2 (c.in_err-inner.ensures.answer d))
+    exit _ c.from_residual-in_err-inner.ensures.1 (refuse w2 (c.in_err-inner.ensures.answer d) refl)
 
 pub returns-in_err-value-clause-answer : goal.returns-in_err-value-clause-answer
 returns-in_err-value-clause-answer c = λ d.

@@ -5,18 +5,18 @@ use Rattle.lv_parser.proofs.Fronts.{exit}
 use Rattle.lv_parser.proofs.conns.settings.Goals as goal
 
 pub returns-in_err-open-clause-answer : goal.returns-in_err-open-clause-answer
-returns-in_err-open-clause-answer c = λ d. exit _ c.from_residual.ensures.1 (refuse (through (begin (rules.hash rules.conns) c.args.at refl)) (c.in_err-open.ensures.answer d))
+returns-in_err-open-clause-answer c = λ d. exit _ c.from_residual.ensures.1 (refuse (through (begin (rules.hash rules.conns) c.args.at refl)) (c.in_err-open.ensures.answer d) refl)
 
 pub returns-in_err-inner-clause-answer : goal.returns-in_err-inner-clause-answer
 returns-in_err-inner-clause-answer c = λ d.
     let w1 = then (through (begin (rules.hash rules.conns) c.args.at refl)) (c.in_ok-open.ensures.answer d) in
-    exit _ c.from_residual-in_err-inner.ensures.1 (refuse w1 (c.in_err-inner.ensures.answer d))
+    exit _ c.from_residual-in_err-inner.ensures.1 (refuse w1 (c.in_err-inner.ensures.answer d) refl)
 
 pub returns-in_err-list-clause-answer : goal.returns-in_err-list-clause-answer
 returns-in_err-list-clause-answer c = λ d.
     let w1 = then (through (begin (rules.hash rules.conns) c.args.at refl)) (c.in_ok-open.ensures.answer d) in
     let w2 = then w1 (c.in_ok-inner.ensures.answer d) in
-    exit _ c.from_residual-in_err-list.ensures.1 (refuse w2 (c.in_err-list.ensures.answer d))
+    exit _ c.from_residual-in_err-list.ensures.1 (refuse w2 (c.in_err-list.ensures.answer d) refl)
 
 pub returns-in_err-end-clause-answer : goal.returns-in_err-end-clause-answer
 returns-in_err-end-clause-answer c = λ d.

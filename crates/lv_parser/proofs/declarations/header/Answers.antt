@@ -5,7 +5,7 @@ use Rattle.lv_parser.proofs.Fronts.{exit}
 use Rattle.lv_parser.proofs.declarations.header.Goals as goal
 
 pub returns-in_err-signed-clause-answer : goal.returns-in_err-signed-clause-answer
-returns-in_err-signed-clause-answer c = λ d. exit _ c.from_residual.ensures.1 (refuse (begin rules.header c.args.at refl) (c.in_err-signed.ensures.answer d))
+returns-in_err-signed-clause-answer c = λ d. exit _ c.from_residual.ensures.1 (refuse (begin rules.header c.args.at refl) (c.in_err-signed.ensures.answer d) refl)
 
 pub returns-in_err-range-clause-answer : goal.returns-in_err-range-clause-answer
 returns-in_err-range-clause-answer c = λ d.

@@ -5,12 +5,12 @@ use Rattle.lv_parser.proofs.Fronts.{exit}
 use Rattle.lv_parser.proofs.declarations.index.Goals as goal
 
 pub returns-in_err-first-clause-answer : goal.returns-in_err-first-clause-answer
-returns-in_err-first-clause-answer c = λ d. exit _ c.from_residual.ensures.1 (refuse (through (begin (rules.index c.args.genvar c.args.bytes.now) c.args.at refl)) (c.in_err-first.ensures.answer d))
+returns-in_err-first-clause-answer c = λ d. exit _ c.from_residual.ensures.1 (refuse (through (begin (rules.index c.args.genvar c.args.bytes.now) c.args.at refl)) (c.in_err-first.ensures.answer d) refl)
 
 pub returns-in_err-names-clause-answer : goal.returns-in_err-names-clause-answer
 returns-in_err-names-clause-answer c = λ d.
     let w1 = then (through (begin (rules.index c.args.genvar c.args.bytes.now) c.args.at refl)) (c.in_ok-first.ensures.answer d) in
-    exit _ c.from_residual-in_err-names.ensures.1 (refuse w1 (c.in_err-names.ensures.answer d))
+    exit _ c.from_residual-in_err-names.ensures.1 (refuse w1 (c.in_err-names.ensures.answer d) refl)
 
 pub returns-in_err-end-clause-answer : goal.returns-in_err-end-clause-answer
 returns-in_err-end-clause-answer c = λ d.

@@ -6,7 +6,7 @@ use Rattle.lv_parser.proofs.Fronts.{exit}
 use Rattle.lv_parser.proofs.declarations.input.Goals as goal
 
 pub returns-in_err-wire-clause-answer : goal.returns-in_err-wire-clause-answer
-returns-in_err-wire-clause-answer c = λ d. exit _ c.from_residual.ensures.1 (refuse (through (begin rules.input c.args.at refl)) (c.in_err-wire.ensures.answer d))
+returns-in_err-wire-clause-answer c = λ d. exit _ c.from_residual.ensures.1 (refuse (through (begin rules.input c.args.at refl)) (c.in_err-wire.ensures.answer d) refl)
 
 pub returns-then-is_word-clause-answer : goal.returns-then-is_word-clause-answer
 returns-then-is_word-clause-answer c = λ d.

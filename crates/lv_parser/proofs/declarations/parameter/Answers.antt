@@ -5,12 +5,12 @@ use Rattle.lv_parser.proofs.Fronts.{exit}
 use Rattle.lv_parser.proofs.declarations.parameter.Goals as goal
 
 pub returns-in_err-sign-clause-answer : goal.returns-in_err-sign-clause-answer
-returns-in_err-sign-clause-answer c = λ d. exit _ c.from_residual.ensures.1 (refuse (through (begin (rules.parameter c.args.local c.args.bytes.now) c.args.at refl)) (c.in_err-sign.ensures.answer d))
+returns-in_err-sign-clause-answer c = λ d. exit _ c.from_residual.ensures.1 (refuse (through (begin (rules.parameter c.args.local c.args.bytes.now) c.args.at refl)) (c.in_err-sign.ensures.answer d) refl)
 
 pub returns-in_err-params-clause-answer : goal.returns-in_err-params-clause-answer
 returns-in_err-params-clause-answer c = λ d.
     let w1 = then (through (begin (rules.parameter c.args.local c.args.bytes.now) c.args.at refl)) (c.in_ok-sign.ensures.answer d) in
-    exit _ c.from_residual-in_err-params.ensures.1 (refuse w1 (c.in_err-params.ensures.answer d))
+    exit _ c.from_residual-in_err-params.ensures.1 (refuse w1 (c.in_err-params.ensures.answer d) refl)
 
 pub returns-in_err-end-clause-answer : goal.returns-in_err-end-clause-answer
 returns-in_err-end-clause-answer c = λ d.

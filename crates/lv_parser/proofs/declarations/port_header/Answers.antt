@@ -5,7 +5,7 @@ use Rattle.lv_parser.proofs.Fronts.{exit}
 use Rattle.lv_parser.proofs.declarations.port_header.Goals as goal
 
 pub returns-in_err-direction-clause-answer : goal.returns-in_err-direction-clause-answer
-returns-in_err-direction-clause-answer c = λ d. exit _ c.from_residual.ensures.1 (refuse (begin rules.port_header c.args.at refl) (c.in_err-direction.ensures.answer d))
+returns-in_err-direction-clause-answer c = λ d. exit _ c.from_residual.ensures.1 (refuse (begin rules.port_header c.args.at refl) (c.in_err-direction.ensures.answer d) refl)
 
 pub returns-in_err-header-clause-answer : goal.returns-in_err-header-clause-answer
 returns-in_err-header-clause-answer c = λ d.

@@ -5,7 +5,7 @@ use Rattle.lv_parser.proofs.Fronts.{exit}
 use Rattle.lv_parser.proofs.declarations.reg_name.Goals as goal
 
 pub returns-in_err-name-clause-answer : goal.returns-in_err-name-clause-answer
-returns-in_err-name-clause-answer c = λ d. exit _ c.from_residual.ensures.1 (refuse (through (begin rules.reg_name c.args.at refl)) (c.in_err-name.ensures.answer d))
+returns-in_err-name-clause-answer c = λ d. exit _ c.from_residual.ensures.1 (refuse (through (begin rules.reg_name c.args.at refl)) (c.in_err-name.ensures.answer d) refl)
 
 pub returns-in_err-bounds-clause-answer : goal.returns-in_err-bounds-clause-answer
 returns-in_err-bounds-clause-answer c = λ d.

@@ -6,12 +6,12 @@ use Rattle.lv_parser.proofs.exprs.bound.Goals as goal
 
 pub returns-in_err-second-clause-answer : goal.returns-in_err-second-clause-answer
 returns-in_err-second-clause-answer c = λ d.
-    exit _ c.from_residual.ensures.1 (refuse (through (begin (rules.bound c.args.bytes.now) c.args.at refl)) (c.in_err-second.ensures.answer d))
+    exit _ c.from_residual.ensures.1 (refuse (through (begin (rules.bound c.args.bytes.now) c.args.at refl)) (c.in_err-second.ensures.answer d) refl)
 
 pub returns-in_err-right-clause-answer : goal.returns-in_err-right-clause-answer
 returns-in_err-right-clause-answer c = λ d.
     let w1 = then (through (begin (rules.bound c.args.bytes.now) c.args.at refl)) (c.in_ok-second.ensures.answer d) in
-    exit _ c.from_residual-in_err-right.ensures.1 (refuse w1 (c.in_err-right.ensures.answer d))
+    exit _ c.from_residual-in_err-right.ensures.1 (refuse w1 (c.in_err-right.ensures.answer d) refl)
 
 pub returns-in_err-end-clause-answer : goal.returns-in_err-end-clause-answer
 returns-in_err-end-clause-answer c = λ d.

@@ -17,7 +17,7 @@ path_is : (i : Ident) (steps : List PathStep) (parts : List ℕ × ℕ) (ss : Li
 path_is i steps parts ss e f = ap (λ t. (path_at t parts, ss)) e ∙ ap (λ q. (path_at [] q, ss)) f
 
 pub returns-in_err-name-clause-answer : goal.returns-in_err-name-clause-answer
-returns-in_err-name-clause-answer c = λ d. exit _ c.from_residual.ensures.1 (refuse (through (begin rules.named c.args.at refl)) (c.in_err-name.ensures.answer d))
+returns-in_err-name-clause-answer c = λ d. exit _ c.from_residual.ensures.1 (refuse (through (begin rules.named c.args.at refl)) (c.in_err-name.ensures.answer d) refl)
 
 pub returns-in_err-selects-clause-answer : goal.returns-in_err-selects-clause-answer
 returns-in_err-selects-clause-answer c = λ d.

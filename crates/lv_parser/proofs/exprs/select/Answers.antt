@@ -6,12 +6,12 @@ use Rattle.lv_parser.proofs.Instead.{instead}
 use Rattle.lv_parser.proofs.exprs.select.Goals as goal
 
 pub returns-in_err-first-clause-answer : goal.returns-in_err-first-clause-answer
-returns-in_err-first-clause-answer c = λ d. exit _ c.from_residual.ensures.1 (refuse (through (begin rules.selected c.args.at refl)) (c.in_err-first.ensures.answer d))
+returns-in_err-first-clause-answer c = λ d. exit _ c.from_residual.ensures.1 (refuse (through (begin rules.selected c.args.at refl)) (c.in_err-first.ensures.answer d) refl)
 
 pub returns-in_err-left-clause-answer : goal.returns-in_err-left-clause-answer
 returns-in_err-left-clause-answer c = λ d.
     let w1 = then (through (begin rules.selected c.args.at refl)) (c.in_ok-first.ensures.answer d) in
-    exit _ c.from_residual-in_err-left.ensures.1 (refuse w1 (c.in_err-left.ensures.answer d))
+    exit _ c.from_residual-in_err-left.ensures.1 (refuse w1 (c.in_err-left.ensures.answer d) refl)
 
 pub returns-in_err-span-clause-answer : goal.returns-in_err-span-clause-answer
 returns-in_err-span-clause-answer c = λ d.

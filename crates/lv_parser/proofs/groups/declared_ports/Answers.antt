@@ -6,12 +6,12 @@ use Rattle.lv_parser.proofs.Grouping.{groups_begin, groups_more, groups_stop, gr
 use Rattle.lv_parser.proofs.groups.declared_ports.Goals as goal
 
 pub returns-in_err-header-clause-answer : goal.returns-in_err-header-clause-answer
-returns-in_err-header-clause-answer c = λ d. exit _ c.from_residual.ensures.1 (refuse (through (begin rules.declared_ports c.args.at refl)) (c.in_err-header.ensures.answer d))
+returns-in_err-header-clause-answer c = λ d. exit _ c.from_residual.ensures.1 (refuse (through (begin rules.declared_ports c.args.at refl)) (c.in_err-header.ensures.answer d) refl)
 
 pub returns-in_err-first-clause-answer : goal.returns-in_err-first-clause-answer
 returns-in_err-first-clause-answer c = λ d.
     let w1 = then (through (begin rules.declared_ports c.args.at refl)) (c.in_ok-header.ensures.answer d) in
-    exit _ c.from_residual-in_err-first.ensures.1 (refuse w1 (c.in_err-first.ensures.answer d))
+    exit _ c.from_residual-in_err-first.ensures.1 (refuse w1 (c.in_err-first.ensures.answer d) refl)
 
 pub entries-init : goal.entries-init
 entries-init c = (

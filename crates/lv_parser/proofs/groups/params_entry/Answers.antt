@@ -10,7 +10,7 @@ pub returns-in_err-header-clause-answer : goal.returns-in_err-header-clause-answ
 returns-in_err-header-clause-answer c = λ d.
     let o = opens c.args.tokens.now.text c.args.tokens.now.list rules.params_header c.args.at 0 (shapes.word (codes "parameter")) refl (sym c.is_word.ensures.answer ∙ c.if-is_word.true) in
     let r = refuse_last (to_some (begin (perhaps rules.params_header) c.args.at refl) o) (c.in_err-header.ensures.answer d) in
-    exit _ c.from_residual.ensures.1 (refuse (begin (both (perhaps rules.params_header) rules.setting) c.args.at refl) r)
+    exit _ c.from_residual.ensures.1 (refuse (begin (both (perhaps rules.params_header) rules.setting) c.args.at refl) r refl)
 
 pub returns-in_err-setting-clause-answer : goal.returns-in_err-setting-clause-answer
 returns-in_err-setting-clause-answer c = λ d.

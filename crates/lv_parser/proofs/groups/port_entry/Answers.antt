@@ -11,7 +11,7 @@ pub returns-in_err-header-clause-answer : goal.returns-in_err-header-clause-answ
 returns-in_err-header-clause-answer c = λ d.
     let o = opens_either c.args.tokens.now.text c.args.tokens.now.list rules.port_header c.args.at (shapes.word (codes "input")) (shapes.word (codes "output")) 0 refl refl (sym c.is_direction.ensures ∙ c.if-is_direction.true) in
     let r = refuse_last (to_some (begin (perhaps rules.port_header) c.args.at refl) o) (c.in_err-header.ensures.answer d) in
-    exit _ c.from_residual.ensures.1 (refuse (begin (both (perhaps rules.port_header) rules.ident) c.args.at refl) r)
+    exit _ c.from_residual.ensures.1 (refuse (begin (both (perhaps rules.port_header) rules.ident) c.args.at refl) r refl)
 
 pub returns-in_err-ident-clause-answer : goal.returns-in_err-ident-clause-answer
 returns-in_err-ident-clause-answer c = λ d.

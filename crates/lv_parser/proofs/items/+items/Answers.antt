@@ -1,12 +1,13 @@
-use Rattle.std.proofs.Common.{refl, sym, ◌∙◌, arith}
+use Rattle.std.proofs.Common.{refl, sym, ◌∙◌, ap, arith}
 use Rattle.lv_viable.specs.Grammar.{call}
+use Rattle.lv_viable.specs.Spelling.{most}
 use Rattle.lv_grammar.specs.Shapes as shapes
 use Rattle.lv_grammar.specs.Rules as rules
 use Rattle.lv_parser.proofs.Paths.{begin, through, then, last, refuse, refuse_last, taken, take_more, take_stops, take_ends}
 use Rattle.lv_parser.proofs.Fronts.{exit}
 use Rattle.lv_parser.proofs.Instead.{instead}
 use Rattle.lv_parser.proofs.StatementPaths.{carried}
-use Rattle.lv_parser.proofs.ItemPaths.{block_item_within, block_item_none, block_good, block_apart, whole_good, wire_first, not_wire, reg_first, not_reg, integer_first, not_integer, genvar_first, not_genvar, localparam_first, not_localparam, assign_first, not_assign, always_first, not_always, for_first, not_for}
+use Rattle.lv_parser.proofs.ItemPaths.{block_item_within, block_good, block_apart, whole_good, wire_first, not_wire, reg_first, not_reg, integer_first, not_integer, genvar_first, not_genvar, localparam_first, not_localparam, assign_first, not_assign, always_first, not_always, for_first, not_for}
 use Rattle.lv_parser.proofs.items.+items.Goals as goal
 
 pub block_items-entries-init : goal.block_items-entries-init
@@ -33,20 +34,20 @@ block_items-returns-clause-answer m c = λ d t s i.
 pub named_block-returns-in_err-colon-clause-answer : goal.named_block-returns-in_err-colon-clause-answer
 named_block-returns-in_err-colon-clause-answer m c = λ d t s i.
     let w0 = through (begin rules.named_block c.args.at refl) in
-    exit _ c.from_residual.ensures.1 (refuse w0 (c.in_err-colon.ensures.answer d))
+    exit _ c.from_residual.ensures.1 (refuse w0 (c.in_err-colon.ensures.answer d) refl)
 
 pub named_block-returns-in_err-name-clause-answer : goal.named_block-returns-in_err-name-clause-answer
 named_block-returns-in_err-name-clause-answer m c = λ d t s i.
     let w0 = through (begin rules.named_block c.args.at refl) in
     let w1 = then w0 (c.in_ok-colon.ensures.answer d) in
-    exit _ c.from_residual-in_err-name.ensures.1 (refuse w1 (c.in_err-name.ensures.answer d))
+    exit _ c.from_residual-in_err-name.ensures.1 (refuse w1 (c.in_err-name.ensures.answer d) refl)
 
 pub named_block-returns-in_err-label-clause-answer : goal.named_block-returns-in_err-label-clause-answer
 named_block-returns-in_err-label-clause-answer m c = λ d t s i.
     let w0 = through (begin rules.named_block c.args.at refl) in
     let w1 = then w0 (c.in_ok-colon.ensures.answer d) in
     let w2 = then w1 (c.in_ok-name.ensures.answer d) in
-    exit _ c.from_residual-in_err-label.ensures.1 (refuse w2 (c.in_err-label.ensures.answer d))
+    exit _ c.from_residual-in_err-label.ensures.1 (refuse w2 (c.in_err-label.ensures.answer d) refl)
 
 pub named_block-returns-in_err-list-clause-answer : goal.named_block-returns-in_err-list-clause-answer
 named_block-returns-in_err-list-clause-answer m c = λ d t s i.
@@ -65,7 +66,7 @@ named_block-returns-clause-answer m c = λ d t s i.
     last w3 (c.in_ok-list.ensures.answer d t s i)
 
 pub generate_loop-returns-in_err-head-clause-answer : goal.generate_loop-returns-in_err-head-clause-answer
-generate_loop-returns-in_err-head-clause-answer m c = λ d t s i. exit _ c.from_residual.ensures.1 (refuse (through (begin rules.generate_loop c.args.at refl)) (c.in_err-head.ensures.answer d))
+generate_loop-returns-in_err-head-clause-answer m c = λ d t s i. exit _ c.from_residual.ensures.1 (refuse (through (begin rules.generate_loop c.args.at refl)) (c.in_err-head.ensures.answer d) refl)
 
 pub generate_loop-returns-in_err-label-clause-answer : goal.generate_loop-returns-in_err-label-clause-answer
 generate_loop-returns-in_err-label-clause-answer m c = λ d t s i.
@@ -149,8 +150,8 @@ block_item_body-returns-else-is_word-8-clause-answer m c = λ d t s i.
     let w7 = not_for c.args.at w6 (sym c.is_word-else-is_word-7.ensures.answer ∙ c.if-is_word-8.false) in
     carried c.instance.result w7 (c.instance.ensures.answer d)
 
-pub block_item-returns-then-left-eq0-clause-answer : goal.block_item-returns-then-left-eq0-clause-answer
-block_item-returns-then-left-eq0-clause-answer m c = block_item_none c.args.tokens.now.text c.args.tokens.now.list c.args.left c.args.at c.begins_block_item.result c.refused.result c.if-left-eq0.true c.requires c.begins_block_item.ensures c.refused.ensures
+pub block_items-returns-then-left-eq0-clause-answer : goal.block_items-returns-then-left-eq0-clause-answer
+block_items-returns-then-left-eq0-clause-answer m c = λ d t s i. c.no_items.ensures.answer d t s (i ∙ ap most c.if-left-eq0.true)
 
-pub block_item-returns-else-left-eq0-clause-answer : goal.block_item-returns-else-left-eq0-clause-answer
-block_item-returns-else-left-eq0-clause-answer m c = block_item_within c.args.tokens.now.text c.args.tokens.now.list c.args.left c.args.at c.block_item_body.result (omega arith) c.block_item_body.ensures.answer
+pub block_item-returns-clause-answer : goal.block_item-returns-clause-answer
+block_item-returns-clause-answer m c = block_item_within c.args.tokens.now.text c.args.tokens.now.list c.args.left c.args.at c.block_item_body.result c.requires.room c.block_item_body.ensures.answer

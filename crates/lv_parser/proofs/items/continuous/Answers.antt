@@ -12,12 +12,12 @@ abbrev continuous_at : Target → Expr → ℕ → Continuous
 continuous_at target value place = record { target = target; value = value; place = place }
 
 pub returns-in_err-target-clause-answer : goal.returns-in_err-target-clause-answer
-returns-in_err-target-clause-answer c = λ d t. exit _ c.from_residual.ensures.1 (refuse (through (begin rules.continuous c.args.at refl)) (c.in_err-target.ensures.answer d t))
+returns-in_err-target-clause-answer c = λ d t. exit _ c.from_residual.ensures.1 (refuse (through (begin rules.continuous c.args.at refl)) (c.in_err-target.ensures.answer d t) refl)
 
 pub returns-in_err-right-clause-answer : goal.returns-in_err-right-clause-answer
 returns-in_err-right-clause-answer c = λ d t.
     let w1 = then (through (begin rules.continuous c.args.at refl)) (c.in_ok-target.ensures.answer d t) in
-    exit _ c.from_residual-in_err-right.ensures.1 (refuse w1 (c.in_err-right.ensures.answer d))
+    exit _ c.from_residual-in_err-right.ensures.1 (refuse w1 (c.in_err-right.ensures.answer d) refl)
 
 pub returns-in_err-value-clause-answer : goal.returns-in_err-value-clause-answer
 returns-in_err-value-clause-answer c = λ d t.

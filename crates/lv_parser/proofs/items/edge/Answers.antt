@@ -5,12 +5,12 @@ use Rattle.lv_parser.proofs.Fronts.{exit}
 use Rattle.lv_parser.proofs.items.edge.Goals as goal
 
 pub returns-in_err-clock-clause-answer : goal.returns-in_err-clock-clause-answer
-returns-in_err-clock-clause-answer c = λ d. exit _ c.from_residual.ensures.1 (refuse (through (begin rules.edge c.args.at refl)) (c.in_err-clock.ensures.answer d))
+returns-in_err-clock-clause-answer c = λ d. exit _ c.from_residual.ensures.1 (refuse (through (begin rules.edge c.args.at refl)) (c.in_err-clock.ensures.answer d) refl)
 
 pub returns-in_err-name-clause-answer : goal.returns-in_err-name-clause-answer
 returns-in_err-name-clause-answer c = λ d.
     let w1 = then (through (begin rules.edge c.args.at refl)) (c.in_ok-clock.ensures.answer d) in
-    exit _ c.from_residual-in_err-name.ensures.1 (refuse w1 (c.in_err-name.ensures.answer d))
+    exit _ c.from_residual-in_err-name.ensures.1 (refuse w1 (c.in_err-name.ensures.answer d) refl)
 
 pub returns-in_err-end-clause-answer : goal.returns-in_err-end-clause-answer
 returns-in_err-end-clause-answer c = λ d.

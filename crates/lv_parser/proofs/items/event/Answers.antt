@@ -18,7 +18,7 @@ pub returns-in_err-inner-clause-answer : goal.returns-in_err-inner-clause-answer
 returns-in_err-inner-clause-answer c = λ d.
     let o = absent c.args.tokens.now.text c.args.tokens.now.list (act rules.star_event rules.star) c.args.at (shapes.mark (codes "*")) refl (sym c.is_mark.ensures.answer ∙ c.if-is_mark.false) in
     let w = through (to_other (begin rules.event c.args.at refl) o) in
-    exit _ c.from_residual.ensures.1 (refuse w (c.in_err-inner.ensures.answer d))
+    exit _ c.from_residual.ensures.1 (refuse w (c.in_err-inner.ensures.answer d) refl)
 
 pub returns-clause-answer : goal.returns-clause-answer
 returns-clause-answer c = λ d.

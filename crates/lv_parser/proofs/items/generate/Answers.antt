@@ -5,7 +5,7 @@ use Rattle.lv_parser.proofs.Fronts.{exit}
 use Rattle.lv_parser.proofs.items.generate.Goals as goal
 
 pub returns-in_err-first-clause-answer : goal.returns-in_err-first-clause-answer
-returns-in_err-first-clause-answer c = λ d t s i. exit _ c.from_residual.ensures.1 (refuse (through (begin rules.generate c.args.at refl)) (c.in_err-first.ensures.answer d))
+returns-in_err-first-clause-answer c = λ d t s i. exit _ c.from_residual.ensures.1 (refuse (through (begin rules.generate c.args.at refl)) (c.in_err-first.ensures.answer d) refl)
 
 pub returns-in_err-list-clause-answer : goal.returns-in_err-list-clause-answer
 returns-in_err-list-clause-answer c = λ d t s i.

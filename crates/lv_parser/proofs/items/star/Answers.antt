@@ -5,7 +5,7 @@ use Rattle.lv_parser.proofs.Fronts.{exit}
 use Rattle.lv_parser.proofs.items.star.Goals as goal
 
 pub returns-in_err-close-clause-answer : goal.returns-in_err-close-clause-answer
-returns-in_err-close-clause-answer c = λ d. exit _ c.from_residual.ensures.1 (refuse (through (begin rules.closed_star c.args.at refl)) (c.in_err-close.ensures.answer d))
+returns-in_err-close-clause-answer c = λ d. exit _ c.from_residual.ensures.1 (refuse (through (begin rules.closed_star c.args.at refl)) (c.in_err-close.ensures.answer d) refl)
 
 pub returns-in_err-end-clause-answer : goal.returns-in_err-end-clause-answer
 returns-in_err-end-clause-answer c = λ d.

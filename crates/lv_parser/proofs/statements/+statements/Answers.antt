@@ -1,11 +1,13 @@
 use Rattle.std.proofs.Common.{refl, sym, ◌∙◌, ap, arith, codes}
 use Rattle.lv_viable.specs.Grammar.{call}
+use Rattle.lv_viable.specs.Spelling.{most}
 use Rattle.lv_grammar.specs.Shapes as shapes
 use Rattle.lv_grammar.specs.Rules as rules
-use Rattle.lv_parser.proofs.Paths.{begin, through, then, last, refuse, refuse_last, other, absent, token_read, taken, take_more, take_stops, take_ends}
+use Rattle.lv_parser.proofs.Paths.{begin, through, then, last, refuse, refuse_in, refuse_last, other, absent, token_read, taken, take_more, take_stops, take_ends}
 use Rattle.lv_parser.proofs.Fronts.{exit}
+use Rattle.lv_parser.proofs.Rooms.{is_inner, stmt_rooms}
 use Rattle.lv_parser.proofs.Instead.{instead}
-use Rattle.lv_parser.proofs.StatementPaths.{carried, to_first, to_other, branches_refused, else_next, no_else, stmt_within, stmt_none, empty_first, not_empty, block_first, not_block, choice_first, not_choice, case_first, not_case, casez_first, not_casez, loop_first, not_loop, arms_first, first_refused, arms_more, arms_stop, arms_end}
+use Rattle.lv_parser.proofs.StatementPaths.{carried, to_first, to_other, branches_refused, else_next, no_else, stmt_within, stmt_last, empty_first, not_empty, block_first, not_block, choice_first, not_choice, case_first, not_case, casez_first, not_casez, loop_first, not_loop, arms_first, first_refused, arms_more, arms_stop, arms_end}
 use Rattle.lv_parser.proofs.statements.+statements.Goals as goal
 
 pub inner_stmt-returns-in_err-body-clause-answer : goal.inner_stmt-returns-in_err-body-clause-answer
@@ -17,7 +19,7 @@ inner_stmt-returns-clause-answer t c = λ d h k. instead c.in_ok-inner.ensures (
 pub turns-returns-in_err-head-clause-answer : goal.turns-returns-in_err-head-clause-answer
 turns-returns-in_err-head-clause-answer t c = λ d h k.
     let w0 = through (begin rules.loop c.args.at refl) in
-    exit _ c.from_residual.ensures.1 (refuse w0 (c.in_err-head.ensures.answer d))
+    exit _ c.from_residual.ensures.1 (refuse_in is_inner (stmt_rooms h k c.requires.room) w0 (c.in_err-head.ensures.answer d) refl)
 
 pub turns-returns-in_err-body-clause-answer : goal.turns-returns-in_err-body-clause-answer
 turns-returns-in_err-body-clause-answer t c = λ d h k.
@@ -52,13 +54,13 @@ stmts_to_end-returns-clause-answer t c = λ d h k.
 pub block-returns-in_err-colon-clause-answer : goal.block-returns-in_err-colon-clause-answer
 block-returns-in_err-colon-clause-answer t c = λ d h k.
     let w0 = through (begin rules.block c.args.at refl) in
-    exit _ c.from_residual.ensures.1 (refuse w0 (c.in_err-colon.ensures.answer d))
+    exit _ c.from_residual.ensures.1 (refuse w0 (c.in_err-colon.ensures.answer d) refl)
 
 pub block-returns-in_err-name-clause-answer : goal.block-returns-in_err-name-clause-answer
 block-returns-in_err-name-clause-answer t c = λ d h k.
     let w0 = through (begin rules.block c.args.at refl) in
     let w1 = then w0 (c.in_ok-colon.ensures.answer d) in
-    exit _ c.from_residual-in_err-name.ensures.1 (refuse w1 (c.in_err-name.ensures.answer d))
+    exit _ c.from_residual-in_err-name.ensures.1 (refuse w1 (c.in_err-name.ensures.answer d) refl)
 
 pub block-returns-in_err-list-clause-answer : goal.block-returns-in_err-list-clause-answer
 block-returns-in_err-list-clause-answer t c = λ d h k.
@@ -93,20 +95,20 @@ branches-returns-else-is_word-clause-answer t c = λ d h k. no_else (c.in_ok-the
 pub choice-returns-in_err-open-clause-answer : goal.choice-returns-in_err-open-clause-answer
 choice-returns-in_err-open-clause-answer t c = λ d h k.
     let w0 = through (begin rules.choice c.args.at refl) in
-    exit _ c.from_residual.ensures.1 (refuse w0 (c.in_err-open.ensures.answer d))
+    exit _ c.from_residual.ensures.1 (refuse_in is_inner (stmt_rooms h k c.requires.room) w0 (c.in_err-open.ensures.answer d) refl)
 
 pub choice-returns-in_err-inner-clause-answer : goal.choice-returns-in_err-inner-clause-answer
 choice-returns-in_err-inner-clause-answer t c = λ d h k.
     let w0 = through (begin rules.choice c.args.at refl) in
     let w1 = then w0 (c.in_ok-open.ensures.answer d) in
-    exit _ c.from_residual-in_err-inner.ensures.1 (refuse w1 (c.in_err-inner.ensures.answer d))
+    exit _ c.from_residual-in_err-inner.ensures.1 (refuse_in is_inner (stmt_rooms h k c.requires.room) w1 (c.in_err-inner.ensures.answer d) refl)
 
 pub choice-returns-in_err-test-clause-answer : goal.choice-returns-in_err-test-clause-answer
 choice-returns-in_err-test-clause-answer t c = λ d h k.
     let w0 = through (begin rules.choice c.args.at refl) in
     let w1 = then w0 (c.in_ok-open.ensures.answer d) in
     let w2 = then w1 (c.in_ok-inner.ensures.answer d) in
-    exit _ c.from_residual-in_err-test.ensures.1 (refuse w2 (c.in_err-test.ensures.answer d))
+    exit _ c.from_residual-in_err-test.ensures.1 (refuse_in is_inner (stmt_rooms h k c.requires.room) w2 (c.in_err-test.ensures.answer d) refl)
 
 pub choice-returns-in_err-first-clause-answer : goal.choice-returns-in_err-first-clause-answer
 choice-returns-in_err-first-clause-answer t c = λ d h k.
@@ -114,7 +116,7 @@ choice-returns-in_err-first-clause-answer t c = λ d h k.
     let w1 = then w0 (c.in_ok-open.ensures.answer d) in
     let w2 = then w1 (c.in_ok-inner.ensures.answer d) in
     let w3 = then w2 (c.in_ok-test.ensures.answer d) in
-    exit _ c.from_residual-in_err-first.ensures.1 (refuse w3 (c.in_err-first.ensures.answer d))
+    exit _ c.from_residual-in_err-first.ensures.1 (refuse_in is_inner (stmt_rooms h k c.requires.room) w3 (c.in_err-first.ensures.answer d) refl)
 
 pub choice-returns-in_err-then-clause-answer : goal.choice-returns-in_err-then-clause-answer
 choice-returns-in_err-then-clause-answer t c = λ d h k.
@@ -137,7 +139,7 @@ choice-returns-clause-answer t c = λ d h k.
 pub default_arm-returns-in_err-first-clause-answer : goal.default_arm-returns-in_err-first-clause-answer
 default_arm-returns-in_err-first-clause-answer t c = λ d h k.
     let w0 = through (begin rules.default_arm c.args.at refl) in
-    exit _ c.from_residual.ensures.1 (refuse w0 (c.in_err-first.ensures.answer d))
+    exit _ c.from_residual.ensures.1 (refuse_in is_inner (stmt_rooms h k c.requires.room) w0 (c.in_err-first.ensures.answer d) refl)
 
 pub default_arm-returns-in_err-body-clause-answer : goal.default_arm-returns-in_err-body-clause-answer
 default_arm-returns-in_err-body-clause-answer t c = λ d h k.
@@ -154,13 +156,13 @@ default_arm-returns-clause-answer t c = λ d h k.
 pub labelled_arm-returns-in_err-labels-clause-answer : goal.labelled_arm-returns-in_err-labels-clause-answer
 labelled_arm-returns-in_err-labels-clause-answer t c = λ d h k.
     let w0 = through (begin (rules.labelled_arm c.args.wild) c.args.at refl) in
-    exit _ c.from_residual.ensures.1 (refuse w0 (c.in_err-labels.ensures.answer d))
+    exit _ c.from_residual.ensures.1 (refuse_in is_inner (stmt_rooms h k c.requires.room) w0 (c.in_err-labels.ensures.answer d) refl)
 
 pub labelled_arm-returns-in_err-first-clause-answer : goal.labelled_arm-returns-in_err-first-clause-answer
 labelled_arm-returns-in_err-first-clause-answer t c = λ d h k.
     let w0 = through (begin (rules.labelled_arm c.args.wild) c.args.at refl) in
     let w1 = then w0 (c.in_ok-labels.ensures.answer d) in
-    exit _ c.from_residual-in_err-first.ensures.1 (refuse w1 (c.in_err-first.ensures.answer d))
+    exit _ c.from_residual-in_err-first.ensures.1 (refuse_in is_inner (stmt_rooms h k c.requires.room) w1 (c.in_err-first.ensures.answer d) refl)
 
 pub labelled_arm-returns-in_err-body-clause-answer : goal.labelled_arm-returns-in_err-body-clause-answer
 labelled_arm-returns-in_err-body-clause-answer t c = λ d h k.
@@ -208,20 +210,20 @@ arms-returns-clause-answer t c = λ d h k. arms_end (c.entries.invariant.0 d h k
 pub cases-returns-in_err-open-clause-answer : goal.cases-returns-in_err-open-clause-answer
 cases-returns-in_err-open-clause-answer t c = λ d h k.
     let w0 = through (begin (rules.cases c.args.wild) c.args.at refl) in
-    exit _ c.from_residual.ensures.1 (refuse w0 (c.in_err-open.ensures.answer d))
+    exit _ c.from_residual.ensures.1 (refuse_in is_inner (stmt_rooms h k c.requires.room) w0 (c.in_err-open.ensures.answer d) refl)
 
 pub cases-returns-in_err-inner-clause-answer : goal.cases-returns-in_err-inner-clause-answer
 cases-returns-in_err-inner-clause-answer t c = λ d h k.
     let w0 = through (begin (rules.cases c.args.wild) c.args.at refl) in
     let w1 = then w0 (c.in_ok-open.ensures.answer d) in
-    exit _ c.from_residual-in_err-inner.ensures.1 (refuse w1 (c.in_err-inner.ensures.answer d))
+    exit _ c.from_residual-in_err-inner.ensures.1 (refuse_in is_inner (stmt_rooms h k c.requires.room) w1 (c.in_err-inner.ensures.answer d) refl)
 
 pub cases-returns-in_err-selector-clause-answer : goal.cases-returns-in_err-selector-clause-answer
 cases-returns-in_err-selector-clause-answer t c = λ d h k.
     let w0 = through (begin (rules.cases c.args.wild) c.args.at refl) in
     let w1 = then w0 (c.in_ok-open.ensures.answer d) in
     let w2 = then w1 (c.in_ok-inner.ensures.answer d) in
-    exit _ c.from_residual-in_err-selector.ensures.1 (refuse w2 (c.in_err-selector.ensures.answer d))
+    exit _ c.from_residual-in_err-selector.ensures.1 (refuse_in is_inner (stmt_rooms h k c.requires.room) w2 (c.in_err-selector.ensures.answer d) refl)
 
 pub cases-returns-in_err-first-clause-answer : goal.cases-returns-in_err-first-clause-answer
 cases-returns-in_err-first-clause-answer t c = λ d h k.
@@ -229,7 +231,7 @@ cases-returns-in_err-first-clause-answer t c = λ d h k.
     let w1 = then w0 (c.in_ok-open.ensures.answer d) in
     let w2 = then w1 (c.in_ok-inner.ensures.answer d) in
     let w3 = then w2 (c.in_ok-selector.ensures.answer d) in
-    exit _ c.from_residual-in_err-first.ensures.1 (refuse w3 (c.in_err-first.ensures.answer d))
+    exit _ c.from_residual-in_err-first.ensures.1 (refuse_in is_inner (stmt_rooms h k c.requires.room) w3 (c.in_err-first.ensures.answer d) refl)
 
 pub cases-returns-in_err-list-clause-answer : goal.cases-returns-in_err-list-clause-answer
 cases-returns-in_err-list-clause-answer t c = λ d h k.
@@ -299,8 +301,12 @@ stmt_body-returns-else-is_word-5-clause-answer t c = λ d h k.
     let w5 = not_loop c.args.at w4 (sym c.is_word-else-is_word-4.ensures.answer ∙ c.if-is_word-5.false) in
     carried c.assignment.result w5 (c.assignment.ensures.answer d h)
 
-pub stmt-returns-then-left-eq0-clause-answer : goal.stmt-returns-then-left-eq0-clause-answer
-stmt-returns-then-left-eq0-clause-answer t c = stmt_none c.args.tokens.now.text c.args.tokens.now.list c.args.left c.args.at c.begins_stmt.result c.refused.result c.if-left-eq0.true c.requires c.begins_stmt.ensures c.refused.ensures
+pub stmts_to_end-returns-then-left-eq0-clause-answer : goal.stmts_to_end-returns-then-left-eq0-clause-answer
+stmts_to_end-returns-then-left-eq0-clause-answer t c = λ d h k. c.no_stmts.ensures.answer d h (k ∙ ap most c.if-left-eq0.true)
 
-pub stmt-returns-else-left-eq0-clause-answer : goal.stmt-returns-else-left-eq0-clause-answer
-stmt-returns-else-left-eq0-clause-answer t c = stmt_within c.args.tokens.now.text c.args.tokens.now.list c.args.left c.args.at c.stmt_body.result (omega arith) c.stmt_body.ensures.answer
+pub stmt-returns-then-is_last-clause-answer : goal.stmt-returns-then-is_last-clause-answer
+stmt-returns-then-is_last-clause-answer t c =
+    let w = c.is_last.ensures.last c.if-is_last.true in stmt_last c.args.tokens.now.text c.args.tokens.now.list c.args.left c.args.at w.0 w.1
+
+pub stmt-returns-else-is_last-clause-answer : goal.stmt-returns-else-is_last-clause-answer
+stmt-returns-else-is_last-clause-answer t c = stmt_within c.args.tokens.now.text c.args.tokens.now.list c.args.left c.args.at c.stmt_body.result c.requires.room c.stmt_body.ensures.answer

@@ -9,20 +9,20 @@ use Rattle.lv_parser.proofs.statements.assignment.Goals as goal
 pub returns-in_err-target-clause-answer : goal.returns-in_err-target-clause-answer
 returns-in_err-target-clause-answer c = λ d h.
     let w0 = through (begin rules.assignment c.args.at refl) in
-    exit _ c.from_residual.ensures.1 (refuse w0 (c.in_err-target.ensures.answer d h))
+    exit _ c.from_residual.ensures.1 (refuse w0 (c.in_err-target.ensures.answer d h) refl)
 
 pub returns-in_err-later-clause-answer : goal.returns-in_err-later-clause-answer
 returns-in_err-later-clause-answer c = λ d h.
     let w0 = through (begin rules.assignment c.args.at refl) in
     let w1 = then w0 (c.in_ok-target.ensures.answer d h) in
-    exit _ c.from_residual-in_err-later.ensures.1 (refuse w1 (c.in_err-later.ensures.answer d))
+    exit _ c.from_residual-in_err-later.ensures.1 (refuse w1 (c.in_err-later.ensures.answer d) refl)
 
 pub returns-in_err-value-clause-answer : goal.returns-in_err-value-clause-answer
 returns-in_err-value-clause-answer c = λ d h.
     let w0 = through (begin rules.assignment c.args.at refl) in
     let w1 = then w0 (c.in_ok-target.ensures.answer d h) in
     let w2 = then w1 (c.in_ok-later.ensures.answer d) in
-    exit _ c.from_residual-in_err-value.ensures.1 (refuse w2 (c.in_err-value.ensures.answer d))
+    exit _ c.from_residual-in_err-value.ensures.1 (refuse w2 (c.in_err-value.ensures.answer d) refl)
 
 pub returns-in_err-end-clause-answer : goal.returns-in_err-end-clause-answer
 returns-in_err-end-clause-answer c = λ d h.

@@ -6,7 +6,7 @@ use Rattle.lv_parser.proofs.StatementPaths.{exit_some}
 use Rattle.lv_parser.proofs.statements.behind_default.Goals as goal
 
 pub returns-in_err-colon-clause-answer : goal.returns-in_err-colon-clause-answer
-returns-in_err-colon-clause-answer c = λ d. exit_some _ c.from_residual.ensures.1 (refuse (begin rules.default_words c.args.at refl) (c.in_err-colon.ensures.answer d))
+returns-in_err-colon-clause-answer c = λ d. exit_some _ c.from_residual.ensures.1 (refuse (begin rules.default_words c.args.at refl) (c.in_err-colon.ensures.answer d) refl)
 
 pub returns-then-is_mark-clause-answer : goal.returns-then-is_mark-clause-answer
 returns-then-is_mark-clause-answer c = λ d.

@@ -283,26 +283,6 @@ module _ (text : List ℕ) (tokens : List Token) (n : ℕ) (at : ℕ) (z : n ≡
 pub stmt_last : (text : List ℕ) (tokens : List Token) (n : ℕ) (at : ℕ) → n ≡ 1 → nests (from text tokens at) ≡ true → AnswersStmts n text tokens (call shapes.stmt) at (Err (error.Depth at))
 stmt_last text tokens n at z e = λ d h f. deep_stmt text tokens n at z d f e
 
-true_left : (a b : Bool) → a ≡ true → a || b ≡ true
-true_left true b e = refl
-true_left false b e = true_false false e refl
-
-true_right : (a b : Bool) → b ≡ true → a || b ≡ true
-true_right true b e = refl
-true_right false b e = e
-
-pub nests_case : (ts : List Lexeme) → stands (shapes.word (codes "case")) ts ≡ true → nests ts ≡ true
-nests_case ts e = true_left _ _ (true_left _ _ e)
-
-pub nests_casez : (ts : List Lexeme) → stands (shapes.word (codes "casez")) ts ≡ true → nests ts ≡ true
-nests_casez ts e = true_left _ _ (true_right _ _ e)
-
-pub nests_if : (ts : List Lexeme) → stands (shapes.word (codes "if")) ts ≡ true → nests ts ≡ true
-nests_if ts e = true_right _ _ (true_left _ _ e)
-
-pub nests_for : (ts : List Lexeme) → stands (shapes.word (codes "for")) ts ≡ true → nests ts ≡ true
-nests_for ts e = true_right _ _ (true_right _ _ e)
-
 -- none may nest: only the keyword that ends them may follow
 pub stmts_none : {text : List ℕ} {tokens : List Token} {d : ℕ → Limit} (at : ℕ) (b : Bool) (e : SyntaxError) → d 1 ≡ most 0 → at ≤ length tokens → stands (shapes.word (codes "end")) (from text tokens at) ≡ false →
     b ≡ leads shapes.stmt (from text tokens at) → e ≡ cond b (error.Depth at) (error.Syntax at) → IsRefused text tokens d rules.stmts_to_end at e

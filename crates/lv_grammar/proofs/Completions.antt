@@ -17,7 +17,7 @@ use Rattle.lv_exprs.specs.declared.symbol.Symbol.TheVariants as t
 use Rattle.lv_exprs.specs.Levels.{level}
 use Rattle.lv_exprs.specs.Heights.{height}
 use Rattle.lv_exprs.specs.Forms.{Form, plain, based, sized, name, dot, bit, part, prefix, binary, choice, paren, cast, pair, brace, repeat, text, rank, is_free, Valid, IsExpr}
-use Rattle.lv_viable.proofs.Lists.{true_false, same_head, same_tail, right_nil}
+use Rattle.lv_grammars.proofs.Lists.{true_false, same_head, same_tail, right_nil}
 use Rattle.lv_grammar.specs.Lexemes.{Lexeme}
 use Rattle.lv_grammar.specs.Shapes.{Leaf, value, label}
 use Rattle.lv_grammar.specs.Leaves.{symbol_of, symbols_of, ValidAt}

@@ -13,9 +13,9 @@ use Rattle.lv_exprs.specs.Forms.{Form, plain, based, sized, name, dot, bit, part
 use Rattle.lv_exprs.specs.Trees as trees
 use Rattle.lv_exprs.specs.Laws.{goes_on}
 use Rattle.lv_exprs.proofs.Continued as laws
-use Rattle.lv_viable.specs.Facts.{AreLeaves}
-use Rattle.lv_viable.specs.Sets.{is_in, some_of, all_of, others}
-use Rattle.lv_viable.proofs.Lists.{and_left, and_right, true_false, nil_cons, same_head}
+use Rattle.lv_grammars.specs.Facts.{AreLeaves}
+use Rattle.lv_grammars.specs.Sets.{is_in, some_of, all_of, others}
+use Rattle.lv_grammars.proofs.Lists.{and_left, and_right, true_false, nil_cons, same_head}
 use Rattle.lv_grammar.specs.Lexemes.{Lexeme}
 use Rattle.lv_grammar.specs.Shapes.{Shape, word, mark, fits, base, table, Leaf, value, label, Placed, never_leads, never_follows}
 use Rattle.lv_grammar.specs.Shapes as shapes

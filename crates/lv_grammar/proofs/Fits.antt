@@ -1,6 +1,6 @@
 -- The grammar can be read by its next token alone.
 use Rattle.std.specs.Prelude.{◌≡◌, true, refl}
-use Rattle.lv_viable.specs.Sets.{is_good, rule_fits}
+use Rattle.lv_grammars.specs.Sets.{is_good, rule_fits}
 use Rattle.lv_grammar.specs.Shapes.{base, table}
 use Rattle.lv_grammar.specs.Shapes as shapes
 use Rattle.lv_grammar.specs.Rules.{rules, source_rule}

@@ -1,13 +1,13 @@
 -- The grammar of the source is read by its next token alone, whatever the limits.
 use Rattle.std.proofs.Common.{◌≡◌, ℕ, List, Bool, true, false, refl}
-use Rattle.lv_viable.specs.Grammar.{Gram, call}
-use Rattle.lv_viable.specs.Spelling.{Limit, allows}
-use Rattle.lv_viable.specs.Sets.{rule_fits, has_tree_in, rule_has_tree}
-use Rattle.lv_viable.specs.Facts.{IsLanguage, IsWithin}
-use Rattle.lv_viable.proofs.Readers.{Spelled}
-use Rattle.lv_viable.proofs.Witness.{witness_of, rule_tree}
-use Rattle.lv_viable.proofs.Witness as witness
-use Rattle.lv_viable.proofs.Good.{Setting}
+use Rattle.lv_grammars.specs.Grammar.{Gram, call}
+use Rattle.lv_grammars.specs.Spelling.{Limit, allows}
+use Rattle.lv_grammars.specs.Sets.{rule_fits, has_tree_in, rule_has_tree}
+use Rattle.lv_grammars.specs.Facts.{IsLanguage, IsWithin}
+use Rattle.lv_grammars.proofs.Readers.{Spelled}
+use Rattle.lv_grammars.proofs.Witness.{witness_of, rule_tree}
+use Rattle.lv_grammars.proofs.Witness as witness
+use Rattle.lv_grammars.proofs.Good.{Setting}
 use Rattle.lv_grammar.specs.Lexemes.{Lexeme}
 use Rattle.lv_grammar.specs.Shapes.{Rule, base, table}
 use Rattle.lv_grammar.specs.Shapes as shapes

@@ -5,8 +5,8 @@ use Rattle.std.proofs.lemmas.Bool.{eqb-true}
 use Rattle.lv_ast.specs.TokenLists.{kind_number}
 use Rattle.lv_ast.specs.declared.tokens.Kind.{Kind}
 use Rattle.lv_ast.specs.declared.tokens.Kind.TheVariants as k
-use Rattle.lv_viable.specs.Facts.{IsBase}
-use Rattle.lv_viable.proofs.Lists.{and_left, and_right, true_false}
+use Rattle.lv_grammars.specs.Facts.{IsBase}
+use Rattle.lv_grammars.proofs.Lists.{and_left, and_right, true_false}
 use Rattle.lv_grammar.specs.Lexemes.{Lexeme}
 use Rattle.lv_grammar.specs.Shapes.{Shape, word, mark, name, fits, same, base}
 

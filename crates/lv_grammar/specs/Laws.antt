@@ -1,7 +1,7 @@
 -- Laws of the grammar of the source.
 use Rattle.std.specs.Prelude.{◌≡◌, ℕ, List, Bool}
 use Rattle.lv_ast.specs.declared.item.Source.{Source}
-use Rattle.lv_viable.specs.Spelling.{IsSpelled}
+use Rattle.lv_grammars.specs.Spelling.{IsSpelled}
 use Rattle.lv_grammar.specs.Lexemes.{Lexeme}
 use Rattle.lv_grammar.specs.Shapes.{base}
 use Rattle.lv_grammar.specs.Leaves.{all}

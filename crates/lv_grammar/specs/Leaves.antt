@@ -8,7 +8,7 @@ use Rattle.lv_exprs.specs.Definite.{IsDefinite}
 use Rattle.lv_exprs.specs.Forms as forms
 use Rattle.lv_exprs.specs.Heights.{height}
 use Rattle.lv_exprs.specs.Trees as trees
-use Rattle.lv_viable.specs.Spelling.{Limit, any, most, Language}
+use Rattle.lv_grammars.specs.Spelling.{Limit, any, most, Language}
 use Rattle.lv_grammar.specs.Lexemes.{Lexeme, place_of}
 use Rattle.lv_grammar.specs.Shapes.{Leaf, value, label, Placed, base}
 use Rattle.lv_grammar.specs.Rules.{rules}

@@ -32,8 +32,8 @@ use Rattle.lv_ast.specs.declared.item.Source.{Source}
 use Rattle.lv_grammar.specs.declared.parts.Span.{Span}
 use Rattle.lv_grammar.specs.declared.parts.Span.TheVariants as span
 use Rattle.lv_grammar.specs.declared.parts.Head.{Head}
-use Rattle.lv_viable.specs.Grammar.{Gram, OneOf, left, right, one, leaf, call, act, both, either, perhaps, many, until, tail}
-use Rattle.lv_viable.specs.Spelling.{Rules}
+use Rattle.lv_grammars.specs.Grammar.{Gram, OneOf, left, right, one, leaf, call, act, both, either, perhaps, many, until, tail}
+use Rattle.lv_grammars.specs.Spelling.{Rules}
 use Rattle.lv_grammar.specs.Lexemes.{Lexeme, ident_of}
 use Rattle.lv_grammar.specs.Shapes.{Placed, Leaf, base}
 use Rattle.lv_grammar.specs.Shapes as shapes

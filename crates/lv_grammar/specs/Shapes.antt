@@ -7,8 +7,8 @@ use Rattle.lv_ast.specs.declared.expr.Expr.{Expr}
 use Rattle.lv_ast.specs.declared.stmt.Target.{Target}
 use Rattle.lv_ast.specs.declared.stmt.Stmt.{Stmt}
 use Rattle.lv_ast.specs.declared.item.Item.{Item}
-use Rattle.lv_viable.specs.Grammar.{Base}
-use Rattle.lv_viable.specs.Sets.{these, others, Table}
+use Rattle.lv_grammars.specs.Grammar.{Base}
+use Rattle.lv_grammars.specs.Sets.{these, others, Table}
 use Rattle.lv_grammar.specs.Lexemes.{Lexeme}
 
 pub data Shape : Type 0 where

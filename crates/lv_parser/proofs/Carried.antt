@@ -2,8 +2,8 @@
 use Rattle.std.proofs.Common.{ℕ, List, Result, Ok, Err}
 use Rattle.lv_ast.specs.declared.tokens.Token.{Token}
 use Rattle.lv_exprs.specs.declared.error.SyntaxError.{SyntaxError}
-use Rattle.lv_viable.specs.Grammar.{Gram}
-use Rattle.lv_viable.specs.Spelling.{Limit}
+use Rattle.lv_grammars.specs.Grammar.{Gram}
+use Rattle.lv_grammars.specs.Spelling.{Limit}
 use Rattle.lv_grammar.specs.Shapes.{base}
 use Rattle.lv_parser.specs.Answers.{Answer}
 use Rattle.lv_parser.specs.Paths.{Path}

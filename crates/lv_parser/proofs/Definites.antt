@@ -15,16 +15,16 @@ use Rattle.lv_exprs.specs.Reading as exprs
 use Rattle.lv_exprs.specs.Answers.{tokens_from, IsDeep}
 use Rattle.lv_exprs.specs.Answers as exprs_answers
 use Rattle.lv_exprs.specs.Definite.{ReadsDefinite, FailsDefinite, IsTooHighDefinite, IsDefiniteRead, IsDefiniteRefused}
-use Rattle.lv_viable.specs.Grammar.{Gram, leaf, act}
-use Rattle.lv_viable.specs.Sets.{is_good}
-use Rattle.lv_viable.specs.Spelling.{Limit}
-use Rattle.lv_viable.specs.Reading.{Reads, Fails, Passes, Within, PassesLimit, Begins}
+use Rattle.lv_grammars.specs.Grammar.{Gram, leaf, act}
+use Rattle.lv_grammars.specs.Sets.{is_good}
+use Rattle.lv_grammars.specs.Spelling.{Limit}
+use Rattle.lv_grammars.specs.Reading.{Reads, Fails, Passes, Within, PassesLimit, Begins}
 use Rattle.lv_grammar.specs.Lexemes.{Lexeme, lexeme, lexemes, place_of}
 use Rattle.lv_grammar.specs.Shapes.{Leaf, value, label, Placed, base, table}
 use Rattle.lv_grammar.specs.Rules as rules
 use Rattle.lv_grammar.specs.Leaves.{symbol_of, symbols_of, ValidAt, IsExpression, all, within}
 use Rattle.lv_parser.specs.Answers.{from, placed, placed_result, IsRead, IsRefused, Answer, GoesOn}
-use Rattle.lv_viable.proofs.Lists.{true_false, nil_cons}
+use Rattle.lv_grammars.proofs.Lists.{true_false, nil_cons}
 use Rattle.lv_grammar.proofs.Expressions.{begins}
 use Rattle.lv_parser.proofs.Paths.{begin, through, last, refuse_last}
 use Rattle.lv_grammar.proofs.Completions.{Completed, completed, CompletedLow, completed_low}

@@ -1,11 +1,11 @@
 -- Where a direction stands, and where none does.
 use Rattle.std.proofs.Common.{◌≡◌, ℕ, List, [], ◌∷◌, ◌||◌, true, false, codes, inl, inr}
 use Rattle.lv_ast.specs.declared.tokens.Token.{Token}
-use Rattle.lv_viable.specs.Grammar.{Gram}
-use Rattle.lv_viable.specs.Sets.{these, apart, first}
-use Rattle.lv_viable.specs.Nexts.{lacks_none, lacks_also, Outside}
-use Rattle.lv_viable.proofs.Lists.{or_cases, not_or_left, not_or_right}
-use Rattle.lv_viable.proofs.Good.{outside_these}
+use Rattle.lv_grammars.specs.Grammar.{Gram}
+use Rattle.lv_grammars.specs.Sets.{these, apart, first}
+use Rattle.lv_grammars.specs.Nexts.{lacks_none, lacks_also, Outside}
+use Rattle.lv_grammars.proofs.Lists.{or_cases, not_or_left, not_or_right}
+use Rattle.lv_grammars.proofs.Good.{outside_these}
 use Rattle.lv_grammar.specs.Shapes.{base, table, stands}
 use Rattle.lv_grammar.specs.Shapes as shapes
 use Rattle.lv_parser.specs.Answers.{from}

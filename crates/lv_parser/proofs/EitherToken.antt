@@ -1,11 +1,11 @@
 -- Where one of two tokens stands, and where neither does.
 use Rattle.std.proofs.Common.{◌≡◌, ℕ, List, [], ◌∷◌, true, false, ◌||◌, inl, inr}
 use Rattle.lv_ast.specs.declared.tokens.Token.{Token}
-use Rattle.lv_viable.specs.Grammar.{Gram}
-use Rattle.lv_viable.specs.Sets.{these, among, shapes, first}
-use Rattle.lv_viable.specs.Nexts.{Opens, Outside, lacks_none, lacks_also}
-use Rattle.lv_viable.proofs.Good.{outside_these}
-use Rattle.lv_viable.proofs.Lists.{or_cases, not_or_left, not_or_right}
+use Rattle.lv_grammars.specs.Grammar.{Gram}
+use Rattle.lv_grammars.specs.Sets.{these, among, shapes, first}
+use Rattle.lv_grammars.specs.Nexts.{Opens, Outside, lacks_none, lacks_also}
+use Rattle.lv_grammars.proofs.Good.{outside_these}
+use Rattle.lv_grammars.proofs.Lists.{or_cases, not_or_left, not_or_right}
 use Rattle.lv_grammar.specs.Shapes.{Shape, base, table, stands}
 use Rattle.lv_grammar.specs.Leaves.{all}
 use Rattle.lv_grammar.specs.Rules.{rules}

@@ -4,10 +4,10 @@ use Rattle.std.specs.Result.{IsErrAnd}
 use Rattle.lv_ast.specs.declared.tokens.Token.{Token}
 use Rattle.lv_exprs.specs.declared.error.SyntaxError.{SyntaxError}
 use Rattle.lv_exprs.specs.declared.error.SyntaxError.TheVariants as error
-use Rattle.lv_viable.specs.Grammar.{Gram, one}
-use Rattle.lv_viable.specs.Spelling.{Limit}
-use Rattle.lv_viable.specs.Sets.{some_of}
-use Rattle.lv_viable.proofs.Readers.{one_fails}
+use Rattle.lv_grammars.specs.Grammar.{Gram, one}
+use Rattle.lv_grammars.specs.Spelling.{Limit}
+use Rattle.lv_grammars.specs.Sets.{some_of}
+use Rattle.lv_grammars.proofs.Readers.{one_fails}
 use Rattle.lv_grammar.specs.Lexemes.{Lexeme, lexeme, lexemes, head, place_of}
 use Rattle.lv_grammar.specs.Shapes.{Shape, Rule, Placed, base, fits, stands, rule_leads}
 use Rattle.lv_grammar.specs.Shapes as shapes

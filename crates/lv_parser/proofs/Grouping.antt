@@ -3,14 +3,14 @@ use Rattle.std.proofs.Common.{◌≡◌, ℕ, ◌+◌, List, [], ◌∷◌, ◌+
 use Rattle.lv_ast.specs.declared.tokens.Token.{Token}
 use Rattle.lv_exprs.specs.declared.error.SyntaxError.{SyntaxError}
 use Rattle.lv_exprs.specs.declared.error.SyntaxError.TheVariants as error
-use Rattle.lv_viable.specs.Grammar.{Gram, both, perhaps, many}
-use Rattle.lv_viable.specs.Spelling.{Limit}
-use Rattle.lv_viable.specs.Sets.{these, apart, may_be_empty, first, next, is_good}
-use Rattle.lv_viable.specs.Nexts.{Opens}
-use Rattle.lv_viable.proofs.Loops as loops
-use Rattle.lv_viable.proofs.Rounds as rounds
-use Rattle.lv_viable.proofs.Ways as ways
-use Rattle.lv_viable.proofs.Grammars.{four_true}
+use Rattle.lv_grammars.specs.Grammar.{Gram, both, perhaps, many}
+use Rattle.lv_grammars.specs.Spelling.{Limit}
+use Rattle.lv_grammars.specs.Sets.{these, apart, may_be_empty, first, next, is_good}
+use Rattle.lv_grammars.specs.Nexts.{Opens}
+use Rattle.lv_grammars.proofs.Loops as loops
+use Rattle.lv_grammars.proofs.Rounds as rounds
+use Rattle.lv_grammars.proofs.Ways as ways
+use Rattle.lv_grammars.proofs.Grammars.{four_true}
 use Rattle.lv_grammar.specs.Lexemes.{Lexeme, head}
 use Rattle.lv_grammar.specs.Shapes.{base, table, stands}
 use Rattle.lv_grammar.specs.Shapes as shapes

@@ -3,7 +3,7 @@ use Rattle.std.proofs.Common.{◌≡◌, ℕ, ◌+◌, ◌≤◌, List, length, 
 use Rattle.lv_ast.specs.Tokens.{token_bytes}
 use Rattle.lv_ast.specs.declared.tokens.Token.{Token}
 use Rattle.lv_exprs.specs.declared.error.SyntaxError.TheVariants as error
-use Rattle.lv_viable.specs.Spelling.{Limit}
+use Rattle.lv_grammars.specs.Spelling.{Limit}
 use Rattle.lv_grammar.specs.Lexemes.{lexeme, name_by, ident_of, head}
 use Rattle.lv_grammar.specs.Shapes.{fits}
 use Rattle.lv_grammar.specs.Shapes as shapes

@@ -1,8 +1,8 @@
 -- Where the tree is given by an equation.
 use Rattle.std.proofs.Common.{◌≡◌, ℕ, List, sym, subst}
 use Rattle.lv_ast.specs.declared.tokens.Token.{Token}
-use Rattle.lv_viable.specs.Grammar.{Gram}
-use Rattle.lv_viable.specs.Spelling.{Limit}
+use Rattle.lv_grammars.specs.Grammar.{Gram}
+use Rattle.lv_grammars.specs.Spelling.{Limit}
 use Rattle.lv_grammar.specs.Shapes.{base}
 use Rattle.lv_parser.specs.Answers.{IsRead}
 

@@ -4,9 +4,9 @@ use Rattle.lv_ast.specs.declared.tokens.Token.{Token}
 use Rattle.lv_ast.specs.declared.item.Item.{Item}
 use Rattle.lv_exprs.specs.declared.error.SyntaxError.{SyntaxError}
 use Rattle.lv_exprs.specs.declared.error.SyntaxError.TheVariants as error
-use Rattle.lv_viable.specs.Grammar.{Gram, call, until}
-use Rattle.lv_viable.specs.Spelling.{Limit, most, allows, lowered, inside}
-use Rattle.lv_viable.specs.Sets.{is_good, apart, these, first}
+use Rattle.lv_grammars.specs.Grammar.{Gram, call, until}
+use Rattle.lv_grammars.specs.Spelling.{Limit, most, allows, lowered, inside}
+use Rattle.lv_grammars.specs.Sets.{is_good, apart, these, first}
 use Rattle.lv_grammar.specs.Lexemes.{Lexeme}
 use Rattle.lv_grammar.specs.Shapes.{base, table, stands}
 use Rattle.lv_grammar.specs.Shapes as shapes

@@ -4,18 +4,18 @@ use Rattle.std.proofs.lemmas.List.{map-append}
 use Rattle.lv_ast.specs.declared.tokens.Token.{Token}
 use Rattle.lv_exprs.specs.declared.error.SyntaxError.{SyntaxError}
 use Rattle.lv_exprs.specs.declared.error.SyntaxError.TheVariants as error
-use Rattle.lv_viable.specs.Grammar.{Gram, OneOf, left, right, one, act, both, either, perhaps, many, until}
-use Rattle.lv_viable.specs.Spelling.{Limit}
-use Rattle.lv_viable.specs.Sets.{these, apart, shapes, among, may_be_empty, first, next, is_good}
-use Rattle.lv_viable.specs.Nexts.{Next, Lacks, Outside, Opens}
-use Rattle.lv_viable.specs.At.{StandingUntil}
-use Rattle.lv_viable.proofs.Readers.{next_read}
-use Rattle.lv_viable.proofs.Loops as loops
-use Rattle.lv_viable.proofs.Rounds as rounds
-use Rattle.lv_viable.proofs.Good as good
-use Rattle.lv_viable.proofs.Ways as ways
-use Rattle.lv_viable.proofs.Grammars.{four_true}
-use Rattle.lv_viable.proofs.Lists.{true_false, nil_cons, same_tail}
+use Rattle.lv_grammars.specs.Grammar.{Gram, OneOf, left, right, one, act, both, either, perhaps, many, until}
+use Rattle.lv_grammars.specs.Spelling.{Limit}
+use Rattle.lv_grammars.specs.Sets.{these, apart, shapes, among, may_be_empty, first, next, is_good}
+use Rattle.lv_grammars.specs.Nexts.{Next, Lacks, Outside, Opens}
+use Rattle.lv_grammars.specs.At.{StandingUntil}
+use Rattle.lv_grammars.proofs.Readers.{next_read}
+use Rattle.lv_grammars.proofs.Loops as loops
+use Rattle.lv_grammars.proofs.Rounds as rounds
+use Rattle.lv_grammars.proofs.Good as good
+use Rattle.lv_grammars.proofs.Ways as ways
+use Rattle.lv_grammars.proofs.Grammars.{four_true}
+use Rattle.lv_grammars.proofs.Lists.{true_false, nil_cons, same_tail}
 use Rattle.lv_grammar.specs.Lexemes.{Lexeme, lexemes, head}
 use Rattle.lv_grammar.specs.Shapes.{Shape, Rule, base, table, fits, stands}
 use Rattle.lv_grammar.specs.Shapes as shapes
@@ -25,8 +25,8 @@ use Rattle.lv_parser.specs.Answers.{from, IsRead, Refuses, IsRefused}
 use Rattle.lv_parser.specs.Paths.{Path, Listed, Taken}
 use Rattle.lv_grammar.proofs.Settings.{setting, Rooms, tree_within}
 use Rattle.lv_grammar.proofs.Shaped.{shaped}
-use Rattle.lv_viable.proofs.Readers.{Spelled}
-use Rattle.lv_viable.specs.Sets.{has_tree_in}
+use Rattle.lv_grammars.proofs.Readers.{Spelled}
+use Rattle.lv_grammars.specs.Sets.{has_tree_in}
 use Rattle.lv_parser.proofs.Rooms.{no_rule, none}
 
 -- ---- tokens

@@ -1,7 +1,7 @@
 -- Which rules have trees within the limits.
 use Rattle.std.proofs.Common.{◌≡◌, ℕ, suc, ◌-◌, ◌<◌, List, Bool, true, false, refl, ◌∙◌, ap, arith}
-use Rattle.lv_viable.specs.Spelling.{Limit, most, allows}
-use Rattle.lv_viable.proofs.Lists.{true_false}
+use Rattle.lv_grammars.specs.Spelling.{Limit, most, allows}
+use Rattle.lv_grammars.proofs.Lists.{true_false}
 use Rattle.lv_grammar.specs.Shapes.{Rule}
 use Rattle.lv_grammar.specs.Shapes as shapes
 use Rattle.lv_grammar.proofs.Settings.{Rooms, room}

@@ -7,12 +7,12 @@ use Rattle.lv_ast.specs.declared.expr.Select.{Select}
 use Rattle.lv_grammar.specs.declared.parts.Span.TheVariants as span
 use Rattle.lv_exprs.specs.declared.error.SyntaxError.{SyntaxError}
 use Rattle.lv_exprs.specs.declared.error.SyntaxError.TheVariants as error
-use Rattle.lv_viable.specs.Grammar.{Gram, OneOf, right, either, many}
-use Rattle.lv_viable.specs.Spelling.{Limit}
-use Rattle.lv_viable.specs.Nexts.{Opens}
-use Rattle.lv_viable.specs.At.{Standing}
-use Rattle.lv_viable.proofs.Loops as loops
-use Rattle.lv_viable.proofs.Rounds as rounds
+use Rattle.lv_grammars.specs.Grammar.{Gram, OneOf, right, either, many}
+use Rattle.lv_grammars.specs.Spelling.{Limit}
+use Rattle.lv_grammars.specs.Nexts.{Opens}
+use Rattle.lv_grammars.specs.At.{Standing}
+use Rattle.lv_grammars.proofs.Loops as loops
+use Rattle.lv_grammars.proofs.Rounds as rounds
 use Rattle.lv_grammar.specs.Lexemes.{Lexeme, place_of}
 use Rattle.lv_grammar.specs.Shapes.{base, table, stands}
 use Rattle.lv_grammar.specs.Shapes as shapes

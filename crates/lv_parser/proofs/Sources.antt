@@ -7,18 +7,18 @@ use Rattle.lv_ast.specs.declared.item.Module.{Module}
 use Rattle.lv_ast.specs.declared.item.Source.{Source}
 use Rattle.lv_exprs.specs.declared.error.SyntaxError.{SyntaxError}
 use Rattle.lv_exprs.specs.declared.error.SyntaxError.TheVariants as error
-use Rattle.lv_viable.specs.Spelling.{IsSpelled}
-use Rattle.lv_viable.specs.Reading.{Begins, Reads, Fails, Passes, PassesLimit}
-use Rattle.lv_viable.specs.Nexts.{Outside, Opens}
-use Rattle.lv_viable.proofs.Lists.{nil_cons, true_false}
-use Rattle.lv_viable.proofs.Calls.{is_within}
-use Rattle.lv_viable.proofs.FactsOf.{facts_of}
-use Rattle.lv_viable.proofs.Pairs.{past, whole}
-use Rattle.lv_viable.proofs.OneAnswer.{reads_not_fails}
-use Rattle.lv_viable.proofs.Good.{fails_outside, outside_nothing}
-use Rattle.lv_viable.proofs.Loops as loops
-use Rattle.lv_viable.proofs.Rounds as rounds
-use Rattle.lv_viable.proofs.Ways as ways
+use Rattle.lv_grammars.specs.Spelling.{IsSpelled}
+use Rattle.lv_grammars.specs.Reading.{Begins, Reads, Fails, Passes, PassesLimit}
+use Rattle.lv_grammars.specs.Nexts.{Outside, Opens}
+use Rattle.lv_grammars.proofs.Lists.{nil_cons, true_false}
+use Rattle.lv_grammars.proofs.Calls.{is_within}
+use Rattle.lv_grammars.proofs.FactsOf.{facts_of}
+use Rattle.lv_grammars.proofs.Pairs.{past, whole}
+use Rattle.lv_grammars.proofs.OneAnswer.{reads_not_fails}
+use Rattle.lv_grammars.proofs.Good.{fails_outside, outside_nothing}
+use Rattle.lv_grammars.proofs.Loops as loops
+use Rattle.lv_grammars.proofs.Rounds as rounds
+use Rattle.lv_grammars.proofs.Ways as ways
 use Rattle.lv_grammar.specs.Lexemes.{Lexeme, lexeme, lexemes}
 use Rattle.lv_grammar.specs.Shapes.{base, table, stands}
 use Rattle.lv_grammar.specs.Shapes as shapes

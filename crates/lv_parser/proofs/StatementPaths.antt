@@ -9,18 +9,18 @@ use Rattle.lv_ast.specs.declared.stmt.Stmt.TheVariants as stmt
 use Rattle.lv_ast.specs.declared.stmt.Arm.{Arm}
 use Rattle.lv_exprs.specs.declared.error.SyntaxError.{SyntaxError}
 use Rattle.lv_exprs.specs.declared.error.SyntaxError.TheVariants as error
-use Rattle.lv_viable.specs.Grammar.{Gram, one, call, until, tail}
-use Rattle.lv_viable.specs.Spelling.{Limit, most, allows, lowered, inside}
-use Rattle.lv_viable.specs.Sets as viable
-use Rattle.lv_viable.specs.Sets.{some_of, all_of, among, is_in, is_good, these, first, apart, has_tree_in}
-use Rattle.lv_viable.specs.Nexts.{Outside, Opens}
-use Rattle.lv_viable.proofs.Good as good
-use Rattle.lv_viable.proofs.Rounds as rounds
-use Rattle.lv_viable.proofs.Readers.{Spelled, begun}
-use Rattle.lv_viable.proofs.Starved.{starved, no_tree}
-use Rattle.lv_viable.proofs.Rules.{call_none}
-use Rattle.lv_viable.proofs.Ways as ways
-use Rattle.lv_viable.proofs.Lists.{true_false, and_left, and_right}
+use Rattle.lv_grammars.specs.Grammar.{Gram, one, call, until, tail}
+use Rattle.lv_grammars.specs.Spelling.{Limit, most, allows, lowered, inside}
+use Rattle.lv_grammars.specs.Sets as viable
+use Rattle.lv_grammars.specs.Sets.{some_of, all_of, among, is_in, is_good, these, first, apart, has_tree_in}
+use Rattle.lv_grammars.specs.Nexts.{Outside, Opens}
+use Rattle.lv_grammars.proofs.Good as good
+use Rattle.lv_grammars.proofs.Rounds as rounds
+use Rattle.lv_grammars.proofs.Readers.{Spelled, begun}
+use Rattle.lv_grammars.proofs.Starved.{starved, no_tree}
+use Rattle.lv_grammars.proofs.Rules.{call_none}
+use Rattle.lv_grammars.proofs.Ways as ways
+use Rattle.lv_grammars.proofs.Lists.{true_false, and_left, and_right}
 use Rattle.lv_grammar.specs.Lexemes.{Lexeme, place_of}
 use Rattle.lv_grammar.specs.Shapes.{Shape, Rule, base, table, stands, rule_leads}
 use Rattle.lv_grammar.specs.Shapes as shapes

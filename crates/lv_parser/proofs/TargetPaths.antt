@@ -7,11 +7,11 @@ use Rattle.lv_ast.specs.declared.stmt.Target.{Target}
 use Rattle.lv_ast.specs.declared.stmt.Target.TheVariants as target
 use Rattle.lv_exprs.specs.declared.error.SyntaxError.{SyntaxError}
 use Rattle.lv_exprs.specs.declared.error.SyntaxError.TheVariants as error
-use Rattle.lv_viable.specs.Grammar.{call, act}
-use Rattle.lv_viable.specs.Spelling.{Limit, most, allows, lowered, inside}
-use Rattle.lv_viable.proofs.Lists.{true_false}
-use Rattle.lv_viable.proofs.Readers.{Spelled}
-use Rattle.lv_viable.proofs.Rules.{call_none}
+use Rattle.lv_grammars.specs.Grammar.{call, act}
+use Rattle.lv_grammars.specs.Spelling.{Limit, most, allows, lowered, inside}
+use Rattle.lv_grammars.proofs.Lists.{true_false}
+use Rattle.lv_grammars.proofs.Readers.{Spelled}
+use Rattle.lv_grammars.proofs.Rules.{call_none}
 use Rattle.lv_grammar.specs.Lexemes.{Lexeme}
 use Rattle.lv_grammar.specs.Leaves.{within}
 use Rattle.lv_grammar.proofs.Settings.{setting}

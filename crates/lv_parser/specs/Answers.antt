@@ -4,10 +4,10 @@ use Rattle.lv_ast.specs.declared.tokens.Token.{Token}
 use Rattle.lv_ast.specs.declared.item.Source.{Source}
 use Rattle.lv_exprs.specs.declared.error.SyntaxError.{SyntaxError}
 use Rattle.lv_exprs.specs.declared.error.SyntaxError.TheVariants as error
-use Rattle.lv_viable.specs.Grammar.{Gram}
-use Rattle.lv_viable.specs.Spelling.{Limit, most, IsSpelled}
-use Rattle.lv_viable.specs.Sets.{is_in}
-use Rattle.lv_viable.specs.Reading.{Begins, Reads, Fails, PassesLimit}
+use Rattle.lv_grammars.specs.Grammar.{Gram}
+use Rattle.lv_grammars.specs.Spelling.{Limit, most, IsSpelled}
+use Rattle.lv_grammars.specs.Sets.{is_in}
+use Rattle.lv_grammars.specs.Reading.{Begins, Reads, Fails, PassesLimit}
 use Rattle.lv_grammar.specs.Lexemes.{Lexeme, lexemes, head, place_of}
 use Rattle.lv_grammar.specs.Shapes.{Placed, Rule, base, table, stands}
 use Rattle.lv_grammar.specs.Shapes as shapes

@@ -1,9 +1,9 @@
 -- How far a reader of a list has come whose entries form groups.
 use Rattle.std.specs.Prelude.{◌≡◌, ℕ, List, ◌++◌, Option}
 use Rattle.lv_ast.specs.declared.tokens.Token.{Token}
-use Rattle.lv_viable.specs.Grammar.{Gram, both, many, perhaps}
-use Rattle.lv_viable.specs.Spelling.{Limit}
-use Rattle.lv_viable.specs.At.{Standing}
+use Rattle.lv_grammars.specs.Grammar.{Gram, both, many, perhaps}
+use Rattle.lv_grammars.specs.Spelling.{Limit}
+use Rattle.lv_grammars.specs.At.{Standing}
 use Rattle.lv_grammar.specs.Lexemes.{Lexeme}
 use Rattle.lv_grammar.specs.Shapes.{base}
 use Rattle.lv_grammar.specs.Leaves.{all, within}

@@ -1,9 +1,9 @@
 -- How far a reader has come.
 use Rattle.std.specs.Prelude.{◌≡◌, ℕ, List}
 use Rattle.lv_ast.specs.declared.tokens.Token.{Token}
-use Rattle.lv_viable.specs.Grammar.{Gram, both, many, one}
-use Rattle.lv_viable.specs.Spelling.{Limit}
-use Rattle.lv_viable.specs.At.{Way, Standing, StandingUntil}
+use Rattle.lv_grammars.specs.Grammar.{Gram, both, many, one}
+use Rattle.lv_grammars.specs.Spelling.{Limit}
+use Rattle.lv_grammars.specs.At.{Way, Standing, StandingUntil}
 use Rattle.lv_grammar.specs.Lexemes.{Lexeme}
 use Rattle.lv_grammar.specs.Shapes.{Shape, base, table}
 use Rattle.lv_grammar.specs.Leaves.{all, within}

@@ -2,8 +2,8 @@
 use Rattle.std.specs.Prelude.{◌≡◌, ℕ, List, ◌∷◌}
 use Rattle.lv_ast.specs.declared.tokens.Token.{Token}
 use Rattle.lv_ast.specs.declared.item.Module.{Module}
-use Rattle.lv_viable.specs.Grammar.{many}
-use Rattle.lv_viable.specs.At.{Standing}
+use Rattle.lv_grammars.specs.Grammar.{many}
+use Rattle.lv_grammars.specs.At.{Standing}
 use Rattle.lv_grammar.specs.Shapes.{base}
 use Rattle.lv_grammar.specs.Leaves.{all, low, limits}
 use Rattle.lv_grammar.specs.Rules.{module_rule, source_rule, source_of}

@@ -1,7 +1,7 @@
 //! Expressions, ranges and selects (IEEE 1364-2005, annexes A.2.5 and A.8).
 
 ghost use Rattle.std.specs.Prelude.{◌≡◌, ◌≤◌, length, IfOk};
-ghost use Rattle.lv_viable.specs.Grammar.{perhaps, many};
+ghost use Rattle.lv_grammars.specs.Grammar.{perhaps, many};
 ghost use Rattle.lv_grammar.specs.Shapes as shapes;
 ghost use Rattle.lv_grammar.specs.Rules as rules;
 ghost use Rattle.lv_parser.specs.Answers.{Answers, placed_result, GoesOn, Stays};

@@ -2,7 +2,7 @@
 //! (IEEE 1364-2005, annex A.1.3).
 
 ghost use Rattle.std.specs.Prelude.{◌≡◌, ◌≤◌, ◌++◌, ◌∷◌, [], length, IfOk};
-ghost use Rattle.lv_viable.specs.Grammar.{perhaps, both};
+ghost use Rattle.lv_grammars.specs.Grammar.{perhaps, both};
 ghost use Rattle.lv_grammar.specs.Rules as rules;
 ghost use Rattle.lv_parser.specs.Answers.{Answers, GoesOn};
 ghost use Rattle.lv_parser.specs.Steps.{closed, grown, params_parts, port_parts};

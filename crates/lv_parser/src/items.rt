@@ -1,7 +1,7 @@
 //! Items of modules and of generate blocks (IEEE 1364-2005, annexes A.1.4 and A.4.2).
 
 ghost use Rattle.std.specs.Prelude.{◌≡◌, ◌≤◌, ◌<◌, ◌^◌, ◌||◌, codes, length, IfOk, IsTrue};
-ghost use Rattle.lv_viable.specs.Grammar.{call};
+ghost use Rattle.lv_grammars.specs.Grammar.{call};
 ghost use Rattle.lv_grammar.specs.Shapes.{stands};
 ghost use Rattle.lv_grammar.specs.Shapes as shapes;
 ghost use Rattle.lv_grammar.specs.Rules as rules;

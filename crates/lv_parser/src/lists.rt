@@ -1,8 +1,8 @@
 //! Lists with commas, of whatever stands between these.
 
 ghost use Rattle.std.specs.Prelude.{◌≡◌, ◌≤◌, length, IfOk, true};
-ghost use Rattle.lv_viable.specs.Grammar.{Gram};
-ghost use Rattle.lv_viable.specs.Sets.{is_good};
+ghost use Rattle.lv_grammars.specs.Grammar.{Gram};
+ghost use Rattle.lv_grammars.specs.Sets.{is_good};
 ghost use Rattle.lv_grammar.specs.Shapes.{base, table};
 ghost use Rattle.lv_grammar.specs.Rules as rules;
 ghost use Rattle.lv_parser.specs.Answers.{Answers, GoesOn};

@@ -1,7 +1,7 @@
 //! Statements (IEEE 1364-2005, annex A.6).
 
 ghost use Rattle.std.specs.Prelude.{◌≡◌, ◌+◌, ◌<◌, ◌≤◌, ◌||◌, codes, length, IfOk, true, false, refl};
-ghost use Rattle.lv_viable.specs.Grammar.{call};
+ghost use Rattle.lv_grammars.specs.Grammar.{call};
 ghost use Rattle.lv_grammar.specs.Shapes.{stands};
 ghost use Rattle.lv_grammar.specs.Shapes as shapes;
 ghost use Rattle.lv_grammar.specs.Rules as rules;

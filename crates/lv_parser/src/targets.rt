@@ -1,7 +1,7 @@
 //! What an assignment writes (IEEE 1364-2005, annex A.8.5).
 
 ghost use Rattle.std.specs.Prelude.{◌≡◌, ◌≤◌, ◌<◌, length, IfOk, cond};
-ghost use Rattle.lv_viable.specs.Grammar.{call};
+ghost use Rattle.lv_grammars.specs.Grammar.{call};
 ghost use Rattle.lv_grammar.specs.Shapes as shapes;
 ghost use Rattle.lv_grammar.specs.Rules as rules;
 ghost use Rattle.lv_parser.specs.Answers.{from, leads, AnswersTargets, placed_result, GoesOn};

@@ -2,8 +2,8 @@
 use Rattle.std.proofs.Common.{◌≡◌, inl, inr, ℕ, Bool, true, false, List, [], ◌∷◌, ◌++◌, map, refl, sym, ap, ◌∙◌, subst, Option, Some, None}
 use Rattle.lv_ast.specs.PlainNames.{is_plain, plain_stmt, plain_item}
 use Rattle.lv_ast.specs.declared.stmt.Ident.{Ident}
-use Rattle.lv_viable.specs.Grammar.{Gram, OneOf, left, right, one, call, act, both, either, perhaps, many, until, tail}
-use Rattle.lv_viable.specs.Spelling.{SpellsAll, SpellsEither, SpellsPerhaps, SpellsTail, Spells, Leaves, Calls}
+use Rattle.lv_grammars.specs.Grammar.{Gram, OneOf, left, right, one, call, act, both, either, perhaps, many, until, tail}
+use Rattle.lv_grammars.specs.Spelling.{SpellsAll, SpellsEither, SpellsPerhaps, SpellsTail, Spells, Leaves, Calls}
 use Rattle.lv_grammar.specs.Lexemes.{Lexeme, ident_of}
 use Rattle.lv_grammar.specs.Shapes.{Rule, tree_of, base}
 use Rattle.lv_grammar.specs.Shapes as shapes

@@ -21,8 +21,8 @@ use Rattle.lv_ast.specs.declared.item.Source.{Source}
 use Rattle.lv_ast.specs.declared.tokens.Token.{Token}
 use Rattle.lv_ast.specs.PlainNames.{is_plain, plain_label, plain_stmt, plain_params, plain_ports, plain_item, plain_module, HasPlainNames}
 use Rattle.lv_ast.specs.TokenLists.{are_tokens}
-use Rattle.lv_viable.specs.Grammar.{OneOf, left, right, one, leaf, call, act, both, either, perhaps, many, until, tail}
-use Rattle.lv_viable.specs.Spelling.{Leaves, Calls, Limit, Level, Spells, inside, IsSpelled}
+use Rattle.lv_grammars.specs.Grammar.{OneOf, left, right, one, leaf, call, act, both, either, perhaps, many, until, tail}
+use Rattle.lv_grammars.specs.Spelling.{Leaves, Calls, Limit, Level, Spells, inside, IsSpelled}
 use Rattle.lv_grammar.specs.Lexemes.{Lexeme, lexemes}
 use Rattle.lv_grammar.specs.Shapes.{Placed, Rule, tree_of, base}
 use Rattle.lv_grammar.specs.Shapes as shapes

@@ -7,7 +7,7 @@ ghost use Rattle.lv_ast.specs.TokenLists.{are_tokens};
 ghost use Rattle.lv_ast.specs.PlainNames.{HasPlainNames};
 ghost use Rattle.lv_ast.specs.declared.tokens.Token.{Token};
 ghost use Rattle.lv_ast.specs.declared.item.Source.{Source};
-ghost use Rattle.lv_viable.specs.Spelling.{Limit, IsSpelled};
+ghost use Rattle.lv_grammars.specs.Spelling.{Limit, IsSpelled};
 ghost use Rattle.lv_grammar.specs.Lexemes.{lexemes};
 ghost use Rattle.lv_grammar.specs.Leaves.{all, within};
 ghost use Rattle.lv_grammar.specs.Shapes.{base};

@@ -8,8 +8,8 @@ use Rattle.lv_ast.specs.Tokens.{kind_of, is_mark, is_digit, token_bytes, tail}
 use Rattle.lv_ast.specs.declared.tokens.Kind.{Kind}
 use Rattle.lv_ast.specs.declared.tokens.Kind.TheVariants as k
 use Rattle.lv_ast.specs.declared.tokens.Token.{Token}
-use Rattle.lv_viable.specs.Grammar.{Gram, OneOf, left, right, none, one, call, act, both, either, perhaps, many, until, tail as tailed}
-use Rattle.lv_viable.specs.Spelling.{last_open, SpellsAll, SpellsPerhaps, SpellsTail, Leaves, Calls, Spells}
+use Rattle.lv_grammars.specs.Grammar.{Gram, OneOf, left, right, none, one, call, act, both, either, perhaps, many, until, tail as tailed}
+use Rattle.lv_grammars.specs.Spelling.{last_open, SpellsAll, SpellsPerhaps, SpellsTail, Leaves, Calls, Spells}
 use Rattle.lv_grammar.specs.Lexemes.{Lexeme, lexeme, lexemes, name_by, ident_of}
 use Rattle.lv_grammar.specs.Shapes.{Shape, word, mark, name, Rule, tree_of, base}
 use Rattle.lv_grammar.specs.Rules.{comma, colon, list, first_and_others, behind, ident, default_words}

@@ -15,8 +15,8 @@ use Rattle.lv_ast.specs.declared.item.Ports.{Ports}
 use Rattle.lv_ast.specs.declared.item.Ports.TheVariants as ports
 use Rattle.lv_ast.specs.declared.item.Watch.{Watch}
 use Rattle.lv_ast.specs.declared.item.Conn.{Conn}
-use Rattle.lv_viable.specs.Grammar.{Gram, OneOf, left, right, one, leaf, call, act, both, either, perhaps, many, until}
-use Rattle.lv_viable.specs.Spelling.{Leaves, Calls, Spells}
+use Rattle.lv_grammars.specs.Grammar.{Gram, OneOf, left, right, one, leaf, call, act, both, either, perhaps, many, until}
+use Rattle.lv_grammars.specs.Spelling.{Leaves, Calls, Spells}
 use Rattle.lv_grammar.specs.Lexemes.{Lexeme}
 use Rattle.lv_grammar.specs.Shapes.{Placed, base}
 use Rattle.lv_grammar.specs.Shapes as shapes

@@ -11,8 +11,8 @@ use Rattle.lv_exprs.specs.Forms.{Form, IsExpr, Valid, rank}
 use Rattle.lv_exprs.specs.Forms as forms
 use Rattle.lv_exprs.specs.Trees as trees
 use Rattle.lv_exprs.proofs.FreeBits.{some_text}
-use Rattle.lv_viable.specs.Grammar.{Gram, leaf, call}
-use Rattle.lv_viable.specs.Spelling.{Calls, Limit, any, inside, Level, called}
+use Rattle.lv_grammars.specs.Grammar.{Gram, leaf, call}
+use Rattle.lv_grammars.specs.Spelling.{Calls, Limit, any, inside, Level, called}
 use Rattle.lv_grammar.specs.Lexemes.{Lexeme, lexeme, lexemes, place_of}
 use Rattle.lv_grammar.specs.Shapes.{Placed, Rule, tree_of, count_of, base}
 use Rattle.lv_grammar.specs.Shapes as shapes

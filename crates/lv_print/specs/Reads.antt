@@ -12,7 +12,7 @@ use Rattle.lv_exprs.specs.Trees.{tree}
 use Rattle.lv_print.specs.Written.{text_of}
 use Rattle.lv_print.specs.Expressions.{expr_tokens}
 use Rattle.lv_ast.specs.declared.item.Source.{Source}
-use Rattle.lv_viable.specs.Spelling.{IsSpelled}
+use Rattle.lv_grammars.specs.Spelling.{IsSpelled}
 use Rattle.lv_grammar.specs.Lexemes.{lexemes}
 use Rattle.lv_grammar.specs.Shapes.{base}
 use Rattle.lv_grammar.specs.Leaves.{all}

@@ -13,9 +13,9 @@ use Rattle.lv_lexer.specs.Refusals.{Stand}
 use Rattle.lv_lexer.proofs.Refused.{no_refusal}
 use Rattle.lv_lexer.proofs.Unique.{one_token_list}
 use Rattle.lv_exprs.specs.declared.error.SyntaxError.TheVariants as syntax
-use Rattle.lv_viable.specs.Spelling.{IsSpelled}
-use Rattle.lv_viable.proofs.Calls.{is_within}
-use Rattle.lv_viable.proofs.FactsOf.{facts_of}
+use Rattle.lv_grammars.specs.Spelling.{IsSpelled}
+use Rattle.lv_grammars.proofs.Calls.{is_within}
+use Rattle.lv_grammars.proofs.FactsOf.{facts_of}
 use Rattle.lv_grammar.specs.Lexemes.{lexemes}
 use Rattle.lv_grammar.specs.Shapes.{base, table}
 use Rattle.lv_grammar.specs.Leaves.{all, low, limits}

@@ -1,5 +1,5 @@
 use Rattle.std.proofs.Common.{refl}
-use Rattle.lv_viable.proofs.FactsOf.{facts_of}
+use Rattle.lv_grammars.proofs.FactsOf.{facts_of}
 use Rattle.lv_grammar.specs.Shapes.{base, table}
 use Rattle.lv_grammar.specs.Leaves.{all, limits}
 use Rattle.lv_grammar.specs.Rules.{source_rule}

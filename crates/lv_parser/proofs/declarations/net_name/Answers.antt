@@ -1,7 +1,7 @@
 use Rattle.std.proofs.Common.{refl, sym, ◌∙◌, codes}
 use Rattle.lv_grammar.specs.Shapes as shapes
 use Rattle.lv_grammar.specs.Rules as rules
-use Rattle.lv_viable.specs.Grammar.{both}
+use Rattle.lv_grammars.specs.Grammar.{both}
 use Rattle.lv_parser.proofs.Paths.{begin, through, then, last, refuse, refuse_last, to_some, to_none, opens, absent, token_read}
 use Rattle.lv_parser.proofs.Fronts.{exit}
 use Rattle.lv_parser.proofs.declarations.net_name.Goals as goal

@@ -1,9 +1,9 @@
 use Rattle.std.proofs.Common.{refl, sym, ◌∙◌, codes}
 use Rattle.lv_grammar.specs.Shapes as shapes
 use Rattle.lv_grammar.specs.Rules as rules
-use Rattle.lv_viable.specs.Grammar.{either}
-use Rattle.lv_viable.specs.Nexts.{lacks_none, lacks_also}
-use Rattle.lv_viable.proofs.Good.{outside_these}
+use Rattle.lv_grammars.specs.Grammar.{either}
+use Rattle.lv_grammars.specs.Nexts.{lacks_none, lacks_also}
+use Rattle.lv_grammars.proofs.Good.{outside_these}
 use Rattle.lv_parser.specs.Answers.{from}
 use Rattle.lv_parser.proofs.Paths.{begin, through, then, last, refuse, to_left, to_right, to_some, to_none, opens, other, absent, token_read, lacks_of}
 use Rattle.lv_parser.proofs.Fronts.{exit}

@@ -1,7 +1,7 @@
 use Rattle.std.proofs.Common.{refl, sym, ◌∙◌, codes}
 use Rattle.lv_grammar.specs.Shapes as shapes
 use Rattle.lv_grammar.specs.Rules as rules
-use Rattle.lv_viable.specs.Grammar.{both, perhaps}
+use Rattle.lv_grammars.specs.Grammar.{both, perhaps}
 use Rattle.lv_parser.proofs.Paths.{begin, then, last, refuse, refuse_last, to_some, to_none, opens, absent}
 use Rattle.lv_parser.proofs.Fronts.{exit}
 use Rattle.lv_parser.proofs.groups.params_entry.Goals as goal

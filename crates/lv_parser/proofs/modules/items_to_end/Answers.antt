@@ -1,5 +1,5 @@
 use Rattle.std.proofs.Common.{refl, sym, ◌∙◌, codes, arith}
-use Rattle.lv_viable.specs.Grammar.{call}
+use Rattle.lv_grammars.specs.Grammar.{call}
 use Rattle.lv_grammar.specs.Shapes as shapes
 use Rattle.lv_grammar.specs.Rules as rules
 use Rattle.lv_parser.proofs.Paths.{begin, through, last, refuse_last, taken, take_more, take_stops, take_ends}

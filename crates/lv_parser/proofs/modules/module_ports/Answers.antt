@@ -1,5 +1,5 @@
 use Rattle.std.proofs.Common.{refl, sym, ◌∙◌, codes}
-use Rattle.lv_viable.specs.Grammar.{both}
+use Rattle.lv_grammars.specs.Grammar.{both}
 use Rattle.lv_grammar.specs.Shapes as shapes
 use Rattle.lv_grammar.specs.Rules as rules
 use Rattle.lv_parser.proofs.Paths.{begin, through, then, to_some, to_none, opens, absent, token_read}

@@ -1,6 +1,6 @@
 use Rattle.std.proofs.Common.{refl, sym, ◌∙◌, ap, arith, codes}
-use Rattle.lv_viable.specs.Grammar.{call}
-use Rattle.lv_viable.specs.Spelling.{most}
+use Rattle.lv_grammars.specs.Grammar.{call}
+use Rattle.lv_grammars.specs.Spelling.{most}
 use Rattle.lv_grammar.specs.Shapes as shapes
 use Rattle.lv_grammar.specs.Rules as rules
 use Rattle.lv_parser.proofs.Paths.{begin, through, then, last, refuse, refuse_in, refuse_last, other, absent, token_read, taken, take_more, take_stops, take_ends}

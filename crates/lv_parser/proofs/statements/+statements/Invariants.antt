@@ -1,6 +1,6 @@
 use Rattle.std.proofs.Common.{◌≡◌, ℕ, ◌+◌, ◌-◌, ◌*◌, ◌≤◌, ◌<◌, length, codes}
-use Rattle.lv_viable.specs.Grammar.{call}
-use Rattle.lv_viable.specs.Spelling.{Limit, most}
+use Rattle.lv_grammars.specs.Grammar.{call}
+use Rattle.lv_grammars.specs.Spelling.{Limit, most}
 use Rattle.lv_grammar.specs.Shapes as shapes
 use Rattle.lv_parser.specs.Paths.{Taken}
 use Rattle.lv_parser.proofs.StatementPaths.{Armed}

@@ -1,5 +1,5 @@
 use Rattle.std.proofs.Common.{◌≡◌, ℕ, ◌+◌, ◌-◌, ◌*◌, ◌≤◌, ◌<◌, length}
-use Rattle.lv_viable.specs.Spelling.{Limit, most}
+use Rattle.lv_grammars.specs.Spelling.{Limit, most}
 use Rattle.lv_grammar.specs.Rules as rules
 use Rattle.lv_parser.specs.Paths.{Listed}
 use Rattle.lv_parser.proofs.targets.+targets.Given as goal

@@ -1,5 +1,0 @@
-use Rattle.lv_viable.proofs.Witness.{witness_of}
-use Rattle.lv_viable.proofs.computed_rules_have_trees.Goals as goal
-
-pub returns : goal.returns
-returns g c i a f n r e = witness_of g.X.Spelled.base g.X.Spelled.all i a f n r e

@@ -1,5 +1,5 @@
 -- The steps leave no input out, as far as a contract and the grammar leave none out.
-use Rattle.std.proofs.Common.{◌≡◌, ℕ, ◌<◌, ◌≤◌, true, List, [], ◌∷◌, ◌++◌, length, refl, sym, subst, ap, arith, inl, inr}
+use Rattle.std.proofs.Common.{◌≡◌, ℕ, ◌<◌, true, List, [], ◌∷◌, length, refl, sym, subst, ap, arith, inl, inr}
 use Rattle.std.specs.Prelude.{Option, Some, None, IsSomeAnd, ◌⊎◌}
 use Rattle.lv_io.specs.Causes.{Rose}
 use Rattle.lv_io.specs.Files.{Files, HoldsFile, IsAbsent, IsLonger}
@@ -7,18 +7,14 @@ use Rattle.lv_io.specs.Outside.{ShelfState, Goes}
 use Rattle.lv_ast.specs.Folds.{reading_of, counted}
 use Rattle.lv_ast.specs.Folds as folds
 use Rattle.lv_ast.specs.Sources.{source_text}
-use Rattle.lv_contract.specs.declared.contract.Contract.{Contract}
 use Rattle.lv_contract.specs.declared.need.Need.{Need}
-use Rattle.lv_lexer.specs.declared.error.DirectiveError.{DirectiveError}
 use Rattle.lv_lexer.specs.declared.error.DirectiveError.TheVariants as directive
-use Rattle.lv_lexer.specs.Readings.{IsFoldRefusal}
 use Rattle.lv_steps.specs.declared.ended.Unread.{Unread}
 use Rattle.lv_steps.specs.declared.ended.Unread.TheVariants as u
-use Rattle.lv_steps.specs.declared.ended.Ended.{Ended}
 use Rattle.lv_steps.specs.declared.ended.Ended.TheVariants as t
 use Rattle.lv_steps.specs.declared.files.Limits.{Limits}
-use Rattle.lv_steps.specs.Files.{IsRead, AreRead, IsUnread, AreUnread, IsNext}
-use Rattle.lv_steps.specs.Texts.{Lexed, IsFolded}
+use Rattle.lv_steps.specs.Files.{IsRead, AreRead, IsUnread, IsNext}
+use Rattle.lv_steps.specs.Texts.{Lexed}
 use Rattle.lv_steps.specs.Chain.{folds, reads_source, reads_contract_file, reads_files, joins, reads_text, reads_design, says, reads_contract, reads_input}
 use Rattle.lv_steps.specs.Total.{is_own, IsAnswered, IsTotal, GrammarAnswers, StepsAreTotal}
 use Rattle.lv_steps.proofs.Lexing.{lt_or_le, lexes_total}

@@ -1,5 +1,5 @@
 -- Each text has a token list that is taken, or is refused.
-use Rattle.std.proofs.Common.{◌≡◌, ℕ, zero, suc, ◌+◌, ◌<◌, ◌≤◌, true, false, List, [], ◌∷◌, ◌++◌, length, take, drop, Option, Some, None, ◌⊎◌, inl, inr, refl, sym, ap, ◌∙◌, subst, arith}
+use Rattle.std.proofs.Common.{◌≡◌, ℕ, zero, suc, ◌+◌, ◌<◌, ◌≤◌, true, false, List, [], ◌∷◌, ◌++◌, length, take, drop, Some, None, ◌⊎◌, inl, inr, refl, sym, ap, ◌∙◌, subst, arith}
 use Rattle.std.proofs.lemmas.List.{take_all}
 use Rattle.std.proofs.lemmas.Option.{none-some}
 use Rattle.lv_ast.specs.Tokens.{kind_of, fits}
@@ -12,7 +12,6 @@ use Rattle.lv_lexer.specs.Refusals.{Stand, IsLexRefusal}
 use Rattle.lv_lexer.proofs.Comments.{gap_of_comment}
 use Rattle.lv_lexer.proofs.Stands.{no-bytes, stand_start, stand_gap, stand_token, begins_more, bad_literal, bad_byte, unclosed, gap_step, token_step, token_at, token_fits}
 use Rattle.lv_steps.specs.declared.ended.Ended.TheVariants as t
-use Rattle.lv_steps.specs.Texts.{Lexed, IsLexed}
 use Rattle.lv_steps.specs.Chain.{lexes}
 use Rattle.lv_steps.specs.Total.{is_own, IsAnswered, IsTotal}
 

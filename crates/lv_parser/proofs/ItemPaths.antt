@@ -1,5 +1,5 @@
 -- How items are read.
-use Rattle.std.proofs.Common.{◌≡◌, ℕ, suc, ◌-◌, ◌≤◌, ◌<◌, List, [], ◌∷◌, length, Bool, true, false, ◌||◌, cond, Result, Err, refl, sym, ◌∙◌, ap, subst, arith, codes}
+use Rattle.std.proofs.Common.{◌≡◌, ℕ, suc, ◌-◌, ◌≤◌, ◌<◌, List, [], ◌∷◌, length, Bool, true, false, ◌||◌, cond, Result, refl, sym, ◌∙◌, ap, subst, arith, codes}
 use Rattle.lv_ast.specs.declared.tokens.Token.{Token}
 use Rattle.lv_ast.specs.declared.item.Item.{Item}
 use Rattle.lv_exprs.specs.declared.error.SyntaxError.{SyntaxError}

@@ -1,5 +1,5 @@
 -- How targets are read.
-use Rattle.std.proofs.Common.{◌≡◌, ℕ, suc, ◌-◌, ◌<◌, ◌≤◌, List, length, Bool, true, false, cond, Result, Err, refl, sym, ◌∙◌, ap, subst, codes, arith}
+use Rattle.std.proofs.Common.{◌≡◌, ℕ, suc, ◌-◌, ◌<◌, List, Bool, true, false, Result, Err, refl, ◌∙◌, ap, subst, codes, arith}
 use Rattle.lv_ast.specs.declared.tokens.Token.{Token}
 use Rattle.lv_ast.specs.declared.expr.Path.{Path as ExprPath}
 use Rattle.lv_ast.specs.declared.expr.Select.{Select}
@@ -18,7 +18,7 @@ use Rattle.lv_grammar.proofs.Settings.{setting}
 use Rattle.lv_grammar.specs.Shapes.{Placed, Rule, base, stands}
 use Rattle.lv_grammar.specs.Shapes as shapes
 use Rattle.lv_grammar.specs.Rules as rules
-use Rattle.lv_parser.specs.Answers.{from, leads, placed, IsRead, IsRefused, AnswersTargets}
+use Rattle.lv_parser.specs.Answers.{from, placed, IsRead, AnswersTargets}
 use Rattle.lv_parser.specs.Paths.{Path}
 use Rattle.lv_parser.proofs.Paths.{begin, through, last, opens, other, absent}
 use Rattle.lv_parser.proofs.Selects.{named_place}

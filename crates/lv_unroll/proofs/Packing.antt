@@ -1,12 +1,20 @@
 -- Places that are packed, and the lists that they stand for.
-use Rattle.std.proofs.Common.{◌≡◌, ℕ, ◌+◌, ◌==◌, Bool, true, false, not, ◌&&◌, ◌||◌, if◌then◌else◌, nat_eq, List, [], ◌∷◌, ◌++◌, length, refl, sym, ◌∙◌}
+use Rattle.std.proofs.Common.{◌≡◌, ℕ, ◌+◌, ◌==◌, Bool, true, false, not, ◌&&◌, ◌||◌, if◌then◌else◌, nat_eq, List, [], ◌∷◌, ◌++◌, length, ◌≤◌, take, refl}
+use Rattle.std.proofs.Common.{sym, ◌∙◌}
 use Rattle.std.proofs.Common.{ap, subst, arith}
+use Rattle.std.proofs.Math.Dec.{eqb-suc-suc, eqb-suc-zero, eqb-zero-suc}
 use Rattle.std.proofs.lemmas.Bool.{eq-eqb, eqb-true}
 use Rattle.std.specs.List.{AllByRecursion}
+use Rattle.std.proofs.lemmas.List.{length-map, take_all}
+use Rattle.lv_bits.specs.Words.{Bits}
+use Rattle.lv_bits.specs.Values.{bit}
 use Rattle.lv_model.specs.Machine.{Agree}
-use Rattle.lv_unroll.specs.Slots.{Place, appended, same_values, same_flag, same_places}
-use Rattle.lv_unroll.specs.Entries.{entries_of, IsPacked}
-use Rattle.lv_unroll.proofs.Slotting.{same_flags}
+use Rattle.lv_netlist.specs.Net.{Net}
+use Rattle.lv_unroll.specs.declared.slots.Slot.{Slot}
+use Rattle.lv_unroll.specs.Wires.{GivesTest}
+use Rattle.lv_unroll.specs.Slots.{Place, place_in, places_in, appended, same_values, same_flag, same_places}
+use Rattle.lv_unroll.specs.Entries.{entries_of, equally_many, IsPacked, ArePacked}
+use Rattle.lv_unroll.proofs.Slotting.{same_flags, flags_so_far}
 
 no_true : (b : Bool) → b ≡ false → b ≡ true → ⊥
 no_true true e h = cc
@@ -166,9 +174,9 @@ flags_one :
     (t u : Bool) (xs ys : List ℕ) (ps qs : List Place) → IsPacked t ps → IsPacked u qs →
     (IsPacked true ps → IsPacked true qs → same_flags ps qs ≡ nat_eq (length (entries_of ps)) (length (entries_of qs))) →
     (same_flag t u && same_flags ps qs) ≡ nat_eq (length (if t then xs ∷ entries_of ps else [])) (length (if u then ys ∷ entries_of qs else []))
-flags_one true true xs ys ps qs hp hq ih = ih hp hq
-flags_one true false xs ys ps qs hp hq ih = refl
-flags_one false true xs ys ps qs hp hq ih = refl
+flags_one true true xs ys ps qs hp hq ih = ih hp hq ∙ sym (eqb-suc-suc (length (entries_of ps)) (length (entries_of qs)))
+flags_one true false xs ys ps qs hp hq ih = sym (eqb-suc-zero (length (entries_of ps)))
+flags_one false true xs ys ps qs hp hq ih = sym (eqb-zero-suc (length (entries_of qs)))
 flags_one false false xs ys ps qs hp hq ih = free_flags ps qs hp hq
 
 pub flags_count :
@@ -178,3 +186,23 @@ flags_count [] [] hp hq len = refl
 flags_count [] (q ∷ qs) hp hq len = absurd (omega arith)
 flags_count (p ∷ ps) [] hp hq len = absurd (omega arith)
 flags_count (p ∷ ps) (q ∷ qs) hp hq len = flags_one p.there q.there p.values q.values ps qs hp.1 hq.1 (λ a b. flags_count ps qs a b (omega arith))
+
+pub flags_done :
+    (old new : Net) (k at : ℕ) (xs ys : List Slot) → length xs ≤ k → length xs ≡ length ys → ArePacked old xs → ArePacked old ys →
+    GivesTest old new at (flags_so_far old xs ys k) → GivesTest old new at (equally_many old xs ys)
+flags_done old new k at xs ys le len hx hy g =
+    let is : (ws : List Bits) → flags_so_far old xs ys k ws ≡ equally_many old xs ys ws = λ ws.
+    ap (λ (ss : List Slot). same_flags (places_in old ws ss) (places_in old ws (take k ys))) (take_all k xs le) ∙
+    (ap (λ (ss : List Slot). same_flags (places_in old ws xs) (places_in old ws ss)) (take_all k ys (omega arith)) ∙
+    flags_count (places_in old ws xs) (places_in old ws ys) (hx ws) (hy ws) (omega (
+      arith,
+      length-map xs (place_in old ws),
+      length-map ys (place_in old ws),
+    ))) in
+    record {
+      extends = g.extends;
+      within = g.within;
+      width = g.width;
+      is = λ ws. g.is ws ∙ ap bit (is ws);
+      on = λ ws. g.on ws ∙ is ws;
+    }

@@ -12,7 +12,7 @@ use Rattle.lv_unroll.specs.declared.slots.Slot.{Slot}
 use Rattle.lv_unroll.specs.declared.copies.Nodes.{Nodes}
 use Rattle.lv_unroll.specs.declared.rows.Port.{Port}
 use Rattle.lv_unroll.specs.Wires.{number_in, is_on, Extends, GivesTest}
-use Rattle.lv_unroll.specs.Slots.{Place, place_in, places_in, AreSlots, same_places}
+use Rattle.lv_unroll.specs.Slots.{Place, place_in, places_in, AreSlots, AreBeside, same_places}
 use Rattle.lv_unroll.specs.Entries.{entries_of, entries_with, equally_many, IsPacked, ArePacked, entry_at, row_at, numbers_by, IsPort, IsTable, GivesEntries}
 use Rattle.lv_unroll.specs.Unrolls.{IsCopy}
 use Rattle.lv_unroll.specs.Agreements.{rows_in, rows_match, GivesFact}
@@ -170,6 +170,15 @@ both_agree old now new count i at ports left right ls ls' rs rs' hl hr el er h g
           on ws ∙ agree_same (places_in now ws ls) (places_in now ws rs) (h.lefts.packed ws) (h.rights.packed ws) (len ws) agree;
     }
 
+pub both_beside :
+    (old now : Net) (count i : ℕ) (ports : List Port) (left right : List Nodes) (ls ls' rs rs' : List Slot) → ls' ≡ ls → rs' ≡ rs →
+    BothSoFar old now count ports left right ls rs i → AreBeside now ls' rs'
+both_beside old now count i ports left right ls ls' rs rs' el er h = record {
+  count = count;
+  lefts = subst (AreSlots now count) (sym el) h.lefts.slots_are;
+  rights = subst (AreSlots now count) (sym er) h.rights.slots_are;
+}
+
 -- ---- whether equally many retire
 
 pub no_slots : (net : Net) (n : ℕ) (ss : List Slot) → ss ≡ [] → AreSlots net n ss
@@ -209,3 +218,13 @@ matching_gives old b1 b2 new n many many' at ports left right none none' ls ls' 
       is = λ ws. g.is ws ∙ ap bit (is ws);
       on = λ ws. g.on ws ∙ is ws;
     }
+
+pub rows_beside :
+    (old b1 b2 : Net) (n many many' : ℕ) (ports : List Port) (left right : List ℕ) (none none' ls ls' rs rs' : List Slot) → ls' ≡ ls → rs' ≡ rs →
+    GivesEntries old b1 n many ls (entries_with old none ports left) → GivesEntries b1 b2 n many' rs (entries_with b1 none' ports right) →
+    AreBeside b2 ls' rs'
+rows_beside old b1 b2 n many many' ports left right none none' ls ls' rs rs' el er l r = record {
+  count = n;
+  lefts = subst (AreSlots b2 n) (sym el) (slots_kept b1 b2 n ls r.extends l.slots_are);
+  rights = subst (AreSlots b2 n) (sym er) r.slots_are;
+}

@@ -1,6 +1,6 @@
 use Rattle.std.proofs.Common.{arith}
 use Rattle.lv_unroll.specs.Entries.{entry_length}
-use Rattle.lv_unroll.proofs.Agreeing.{one_kept, both_step, both_agree}
+use Rattle.lv_unroll.proofs.Agreeing.{one_kept, both_step, both_beside, both_agree}
 use Rattle.lv_unroll.proofs.compare.agreement.Goals as goal
 
 pub append_row-requires-in-loop-k-clause-packed : goal.append_row-requires-in-loop-k-clause-packed
@@ -21,3 +21,9 @@ returns c =
     both_agree c.args.b.now c.loop-k.b c.agree.new.b (entry_length c.args.ports.now) c.loop-k.k c.in_ok-at.at c.args.ports.now c.args.left.now
     c.args.right.now c.loop-k.ls.items c.as_slice-2.result.now c.loop-k.rs.items c.as_slice-3.result.now
     (omega arith) (omega arith) c.as_slice-2.ensures.value c.as_slice-3.ensures.value c.loop-k.invariant c.in_ok-at.ensures
+
+pub agree-requires-beside : goal.agree-requires-beside
+agree-requires-beside c =
+    both_beside c.args.b.now c.loop-k.b (entry_length c.args.ports.now) c.loop-k.k c.args.ports.now c.args.left.now c.args.right.now
+    c.loop-k.ls.items c.as_slice-2.result.now c.loop-k.rs.items c.as_slice-3.result.now c.as_slice-2.ensures.value c.as_slice-3.ensures.value
+    c.loop-k.invariant

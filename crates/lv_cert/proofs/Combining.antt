@@ -1,10 +1,8 @@
 -- Parts that are made of others.
-use Rattle.std.proofs.Common.{◌≡◌, ◌≢◌, ℕ, zero, suc, ◌+◌, ◌-◌, ◌≤◌, ◌<◌, Bool, true, false, List, [], ◌∷◌, ◌++◌, codes, refl, sym, ap, ◌∙◌, subst, append_assoc, arith}
-use Rattle.std.proofs.lemmas.List.{append-nil}
+use Rattle.std.proofs.Common.{◌≡◌, ℕ, zero, suc, ◌+◌, ◌-◌, ◌≤◌, Bool, List, [], ◌∷◌, ◌++◌, codes, refl, sym, ap, ◌∙◌, subst, append_assoc, arith}
 use Rattle.lv_cert.specs.Words.{Word, word}
-use Rattle.lv_cert.specs.Parts.{Part, State, Moves, IsStuck, Fails, one, fixed, after, both, turns, turns_fit, turns_words, until, until_fit, until_words}
-use Rattle.lv_cert.specs.declared.error.CertError.{CertError}
-use Rattle.lv_cert.proofs.Leading.{cancel, Rests, Leads, IsUnique, Has, Heads}
+use Rattle.lv_cert.specs.Parts.{Part, State, Moves, IsStuck, one, fixed, after, both, turns, turns_fit, turns_words, until, until_fit, until_words}
+use Rattle.lv_cert.proofs.Leading.{cancel, Leads, IsUnique, Has, Heads}
 
 -- ---- one word
 

@@ -1,13 +1,13 @@
 -- Each part's words tell its value, are clean, and can be there.
-use Rattle.std.proofs.Common.{◌≡◌, ℕ, zero, suc, ◌+◌, ◌-◌, ◌^◌, ◌≤◌, ◌<◌, Bool, true, false, not, ◌&&◌, List, [], ◌∷◌, ◌++◌, codes, decimal, refl, sym, ap, ◌∙◌, subst, arith}
+use Rattle.std.proofs.Common.{◌≡◌, ℕ, ◌+◌, ◌-◌, ◌^◌, ◌≤◌, ◌<◌, Bool, true, false, not, ◌&&◌, List, [], ◌∷◌, codes, decimal, refl, sym, ap, ◌∙◌, subst, arith}
 use Rattle.std.proofs.lemmas.Fmt.{decimal_is_IsNumeral_wide, decimal_digit}
 use Rattle.std.specs.List.{list_all}
 use Rattle.std.specs.Str.Parse.{digits_value}
 use Rattle.lv_cert.specs.Inputs.{is_end}
 use Rattle.lv_clauses.specs.Literals.{Lit}
-use Rattle.lv_cert.specs.Words.{Word, word}
+use Rattle.lv_cert.specs.Words.{word}
 use Rattle.lv_cert.specs.Lines.{literal}
-use Rattle.lv_cert.specs.Parts.{Part, fixed, numeral, wide, over, after, both, turns, until}
+use Rattle.lv_cert.specs.Parts.{Part, fixed, numeral, wide, over, after, turns}
 use Rattle.lv_cert.specs.Sections.{keep_part, above, same, keeps, kept_rest, kept_part, pair_rest, pair_part, pairs, first_rest, first_part, input_part, inputs, inputs_rest, inputs_part, next_var, literals, clause_part, clauses, hint_part, hints, step_rest, step_part, one_more, steps, most, lines_rest, lines_part, clauses_rest, count_rest, set_rest, cnf_part, set_part, named_part, query_part}
 use Rattle.lv_cert.specs.Whole.{states_part, lists_part, two_part, proofs_part, end_part, body_part, one_part, cert_part}
 use Rattle.lv_cert.specs.declared.cert.Shape.{Shape}

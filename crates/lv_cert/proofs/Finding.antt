@@ -1,8 +1,8 @@
 -- A word found among bytes.
-use Rattle.std.proofs.Common.{◌≡◌, ℕ, zero, suc, ◌+◌, ◌^◌, ◌≤◌, ◌<◌, Bool, true, false, ◌==◌, if◌then◌else◌, List, [], ◌∷◌, ◌++◌, take, drop, length, get_or, refl, sym, ap, ◌∙◌, subst, arith, length-drop}
+use Rattle.std.proofs.Common.{◌≡◌, ℕ, ◌+◌, ◌≤◌, ◌<◌, Bool, true, false, ◌==◌, if◌then◌else◌, List, [], ◌∷◌, ◌++◌, take, drop, length, get_or, refl, sym, ap, ◌∙◌, arith}
 use Rattle.std.proofs.lemmas.List.{take_more}
-use Rattle.lv_cert.specs.Words.{Word, word, spell}
-use Rattle.lv_cert.specs.Parts.{State, Moves, line_count}
+use Rattle.lv_cert.specs.Words.{word, spell}
+use Rattle.lv_cert.specs.Parts.{Moves}
 use Rattle.lv_cert.specs.Inputs.{is_end, cut, rest_of, state_of, IsAt, IsAtEnd}
 use Rattle.lv_cert.proofs.Texts.{cut_end, cut_on, rest_end, rest_on, spell_cut}
 use Rattle.lv_cert.proofs.Writing.{drop_nat, drop_all}

@@ -1,7 +1,7 @@
 -- What is answered of bytes.
-use Rattle.std.proofs.Common.{◌≡◌, ℕ, zero, suc, ◌+◌, ◌-◌, ◌^◌, ◌≤◌, ◌<◌, Bool, true, false, List, [], ◌∷◌, ◌++◌, take, drop, length, refl, sym, ap, ◌∙◌, subst, ◌⊎◌, inl, inr, append_assoc, arith}
+use Rattle.std.proofs.Common.{◌≡◌, ℕ, zero, suc, ◌+◌, ◌-◌, ◌<◌, List, [], ◌∷◌, ◌++◌, take, drop, refl, sym, ap, ◌∙◌, subst, ◌⊎◌, inl, inr, append_assoc, arith}
 use Rattle.std.proofs.lemmas.List.{append-nil}
-use Rattle.lv_cert.specs.Words.{Word, word, words_of, spell, text_of}
+use Rattle.lv_cert.specs.Words.{Word, words_of, spell, text_of}
 use Rattle.lv_cert.specs.Values.{Values, Sets}
 use Rattle.lv_cert.specs.Lines.{Line, lines_of}
 use Rattle.lv_cert.specs.Grammar.{IsFor, IsCertificate, Begins, IsFirstWrong, IsRefusal}
@@ -12,7 +12,7 @@ use Rattle.lv_cert.specs.declared.cert.Shape.{Shape}
 use Rattle.lv_cert.specs.declared.error.CertError.{CertError}
 use Rattle.lv_cert.specs.declared.error.CertError.TheVariants as error
 use Rattle.lv_cert.proofs.Leading.{split, cancel, line_count-append, nothing_more}
-use Rattle.lv_cert.proofs.Texts.{spell-append, words_of-append, AreClean, are_clean_take, cut_spell, rest_spell, spell_cut, AreFilled, lines-counted, take-filled, front_lines}
+use Rattle.lv_cert.proofs.Texts.{spell-append, words_of-append, AreClean, are_clean_take, cut_spell, rest_spell, spell_cut, lines-counted, take-filled, front_lines}
 use Rattle.std.proofs.lemmas.List.{length-take-le}
 use Rattle.lv_cert.proofs.Facts.{IsSmall, unique_cert, clean_cert}
 use Rattle.lv_cert.proofs.Wholes.{cert_words, cert_for, words_in, filled}

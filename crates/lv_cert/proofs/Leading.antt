@@ -1,7 +1,7 @@
 -- What is left to read of a part.
-use Rattle.std.proofs.Common.{◌≡◌, ℕ, ◌+◌, ◌-◌, ◌≤◌, Bool, true, false, if◌then◌else◌, List, [], ◌∷◌, ◌++◌, Result, Ok, Err, refl, sym, ap, ◌∙◌, subst, ◌⊎◌, inl, inr, append_assoc, arith}
+use Rattle.std.proofs.Common.{◌≡◌, ◌+◌, List, [], ◌∷◌, ◌++◌, Result, Ok, Err, refl, sym, ap, ◌∙◌, subst, ◌⊎◌, inl, inr, append_assoc, arith}
 use Rattle.std.proofs.lemmas.List.{append-nil}
-use Rattle.lv_cert.specs.Words.{Word, word}
+use Rattle.lv_cert.specs.Words.{Word}
 use Rattle.lv_cert.specs.Parts.{Part, State, Moves, IsStuck, Fails, Reads, line_count}
 use Rattle.lv_cert.specs.declared.error.CertError.{CertError}
 use Rattle.lv_cert.specs.declared.error.CertError.TheVariants.{Line, NoMemory}

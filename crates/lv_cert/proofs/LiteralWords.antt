@@ -1,5 +1,5 @@
 -- Letters of literals.
-use Rattle.std.proofs.Common.{◌≡◌, ◌≢◌, ℕ, ◌+◌, ◌^◌, ◌≤◌, ◌<◌, Bool, true, false, List, [], ◌∷◌, drop, length, get_or, decimal, Option, Some, None, refl, sym, ap, ◌∙◌, subst, arith, drop-cons}
+use Rattle.std.proofs.Common.{◌≡◌, ℕ, ◌+◌, ◌^◌, ◌≤◌, ◌<◌, Bool, true, false, List, ◌∷◌, drop, length, get_or, decimal, None, sym, ap, ◌∙◌, arith, drop-cons}
 use Rattle.std.proofs.lemmas.Fmt.{decimal_is_IsNumeral_wide}
 use Rattle.lv_clauses.specs.Literals.{Lit}
 use Rattle.lv_cert.specs.Lines.{literal}

@@ -1,8 +1,8 @@
 -- Parts that are read turn by turn.
-use Rattle.std.proofs.Common.{◌≡◌, ℕ, zero, suc, ◌+◌, ◌-◌, ◌≤◌, ◌<◌, Bool, List, [], ◌∷◌, ◌++◌, map, length, codes, Option, Some, None, Ok, refl, sym, ap, ◌∙◌, subst, append_assoc, arith, length-append}
+use Rattle.std.proofs.Common.{◌≡◌, ℕ, ◌-◌, ◌≤◌, ◌<◌, Bool, List, [], ◌∷◌, ◌++◌, map, length, codes, Option, Some, None, Ok, refl, sym, ap, ◌∙◌, subst, append_assoc, arith}
 use Rattle.std.proofs.lemmas.List.{append-nil}
 use Rattle.lv_cert.specs.Words.{Word, word}
-use Rattle.lv_cert.specs.Parts.{Part, State, Moves, Fails, ReadsTurn, turns, turns_fit, until}
+use Rattle.lv_cert.specs.Parts.{Part, State, Moves, Fails, ReadsTurn, turns, until}
 use Rattle.lv_cert.specs.declared.error.CertError.{CertError}
 use Rattle.lv_cert.proofs.Leading.{Leads, leads_none, leads_trans, moves_trans, IsUnique, Has, fails_on, fails_head}
 use Rattle.lv_cert.proofs.Combining.{lead_turn, lead_until, heads_turn, IsApart}

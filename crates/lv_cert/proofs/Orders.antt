@@ -1,11 +1,11 @@
 -- Clauses whose variables rise.
-use Rattle.std.proofs.Common.{◌≡◌, ℕ, zero, suc, ◌+◌, ◌^◌, ◌≤◌, ◌<◌, Bool, true, false, List, [], ◌∷◌, ◌++◌, length, get_or, slice_get, Some, IsTrue, refl, sym, ap, ◌∙◌, subst, arith}
-use Rattle.lv_clauses.specs.Literals.{Lit, has, Rises, IsClause, IsClauseOf, IsWithin, HasPair}
+use Rattle.std.proofs.Common.{◌≡◌, ℕ, suc, ◌^◌, ◌≤◌, ◌<◌, true, List, [], ◌∷◌, length, get_or, refl, sym, arith}
+use Rattle.lv_clauses.specs.Literals.{Lit, has, Rises, IsClauseOf, HasPair}
 use Rattle.lv_clauses.specs.Sets.{SetValue, AreClauses}
 use Rattle.lv_clauses.specs.Derivations.{Step}
 use Rattle.lv_clauses.proofs.Literals.{has-head, has-later}
 use Rattle.lv_clauses.proofs.Sorted.{same-members, unpaired}
-use Rattle.lv_cert.specs.Values.{Values, Sets, sets_of}
+use Rattle.lv_cert.specs.Values.{Values, sets_of}
 use Rattle.lv_cert.specs.Grammar.{IsOver, AreOver, AreWide, IsQuery, IsWritable, CanBeWritten, IsFor, AreRising, shape_of}
 
 pub over_rises : (low vars : ℕ) (c : List Lit) → IsOver low vars c → Rises low c

@@ -1,9 +1,8 @@
 -- What a word that was found says of a part of one word.
-use Rattle.std.proofs.Common.{◌≡◌, ◌≢◌, ℕ, ◌+◌, Bool, true, false, List, [], ◌∷◌, ◌++◌, codes, Option, Some, None, refl, sym, ap, ◌∙◌, subst, arith}
+use Rattle.std.proofs.Common.{◌≡◌, ℕ, Bool, false, List, [], ◌∷◌, codes, Some, None, sym, ap, ◌∙◌, subst, arith}
 use Rattle.lv_cert.specs.Words.{Word, word}
-use Rattle.lv_cert.specs.Parts.{Part, State, Moves, IsStuck, Fails, one, until, IsReadOr}
-use Rattle.lv_cert.specs.declared.error.CertError.{CertError}
-use Rattle.lv_cert.specs.declared.error.CertError.TheVariants.{Line, NoMemory}
+use Rattle.lv_cert.specs.Parts.{Part, State, Moves, Fails, one, until, IsReadOr}
+use Rattle.lv_cert.specs.declared.error.CertError.TheVariants.{Line}
 use Rattle.lv_cert.proofs.Leading.{Has}
 use Rattle.lv_cert.proofs.Combining.{stuck_one, stuck_until}
 

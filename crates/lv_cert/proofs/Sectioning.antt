@@ -1,13 +1,13 @@
 -- The parts of a certificate and its lines.
-use Rattle.std.proofs.Common.{◌≡◌, ℕ, zero, suc, ◌+◌, ◌-◌, ◌^◌, ◌≤◌, ◌<◌, Bool, true, false, List, [], ◌∷◌, ◌++◌, map, length, codes, decimal, refl, sym, ap, ◌∙◌, subst, append_assoc, arith}
+use Rattle.std.proofs.Common.{◌≡◌, ℕ, suc, ◌+◌, ◌-◌, ◌≤◌, Bool, true, false, List, [], ◌∷◌, ◌++◌, map, length, codes, decimal, refl, sym, ap, ◌∙◌, subst, append_assoc, arith}
 use Rattle.std.proofs.lemmas.List.{append-nil}
 use Rattle.lv_clauses.specs.Literals.{Lit}
 use Rattle.lv_clauses.specs.Derivations.{Step}
 use Rattle.lv_cert.specs.Words.{Word, word, spelled, marked, words_of, spell, text_of}
-use Rattle.lv_cert.specs.Lines.{Line, literal, keep_line, pair_lines, input_line, clause_line, step_line, step_lines}
+use Rattle.lv_cert.specs.Lines.{literal, keep_line, pair_lines, input_line, clause_line, step_line, step_lines}
 use Rattle.lv_cert.specs.Grammar.{AreRising, AreWide, IsOver, AreOver, AreHints, AreSteps}
-use Rattle.lv_cert.specs.Parts.{Part, turns, turns_fit, turns_words, until_fit, until_words, over}
-use Rattle.lv_cert.specs.Sections.{keep_part, above, same, keeps, pair_part, pairs, input_part, inputs, next_var, literals, clause_part, clauses, hint_part, hints, step_part, one_more, steps, spaced, literal_words}
+use Rattle.lv_cert.specs.Parts.{Part, turns_fit, turns_words, until_fit, until_words, over}
+use Rattle.lv_cert.specs.Sections.{keep_part, above, same, pair_part, input_part, next_var, clause_part, hint_part, step_part, one_more, spaced, literal_words}
 use Rattle.lv_cert.specs.Whole.{StepValue, step_of}
 use Rattle.lv_cert.proofs.Texts.{marked-append, open_word, spell-append}
 

@@ -1,11 +1,11 @@
 -- Words and their text.
-use Rattle.std.proofs.Common.{◌≡◌, ◌≢◌, ℕ, zero, suc, ◌+◌, ◌-◌, ◌/◌, ◌%◌, ◌^◌, ◌≤◌, ◌<◌, Bool, true, false, ◌||◌, if◌then◌else◌, cond, nat_lt, ◌==◌, List, [], ◌∷◌, ◌++◌, map, flat_map, take, drop, length, codes, decimal, refl, sym, ap, ◌∙◌, subst, ◌⊎◌, inl, inr, append_assoc, arith}
+use Rattle.std.proofs.Common.{◌≡◌, ℕ, zero, suc, ◌+◌, ◌-◌, ◌/◌, ◌%◌, ◌≤◌, ◌<◌, Bool, true, false, if◌then◌else◌, ◌==◌, List, [], ◌∷◌, ◌++◌, map, take, length, decimal, refl, sym, ap, ◌∙◌, ◌⊎◌, inl, inr, append_assoc, arith}
 use Rattle.std.proofs.lemmas.List.{append-nil}
 use Rattle.std.proofs.lemmas.Grind.{flat_map-append}
 use Rattle.std.proofs.lemmas.Bool.Decides.{nat_tests}
 use Rattle.std.specs.Fmt.{digits, digits_onto, digit_glyph}
 use Rattle.lv_cert.specs.Words.{Word, word, end_of, spelled, marked, words_of, spell, text_of}
-use Rattle.lv_cert.specs.Parts.{Part, State, after, both, turns, turns_fit, turns_words, until, until_fit, until_words, one, line_count}
+use Rattle.lv_cert.specs.Parts.{Part, both, turns, turns_words, until, until_words, line_count}
 use Rattle.lv_cert.specs.Inputs.{is_end, cut, rest_of, IsDigit}
 use Rattle.lv_cert.proofs.Leading.{split, line_count-append, cancel}
 

@@ -1,16 +1,15 @@
 -- The whole of a certificate and its lines.
-use Rattle.std.proofs.Common.{◌≡◌, ℕ, zero, suc, ◌+◌, ◌-◌, ◌^◌, ◌≤◌, ◌<◌, Bool, true, false, List, [], ◌∷◌, ◌++◌, map, length, codes, decimal, refl, sym, ap, ◌∙◌, subst, append_assoc, arith}
-use Rattle.std.proofs.lemmas.List.{append-nil}
+use Rattle.std.proofs.Common.{◌≡◌, ℕ, ◌+◌, true, false, List, [], ◌∷◌, ◌++◌, map, length, codes, decimal, refl, sym, ap, ◌∙◌, subst, append_assoc, arith}
 use Rattle.lv_clauses.specs.Literals.{Lit}
 use Rattle.lv_clauses.specs.Sets.{SetValue}
 use Rattle.lv_clauses.specs.Derivations.{Step}
-use Rattle.lv_cert.specs.Words.{Word, word, marked, words_of}
+use Rattle.lv_cert.specs.Words.{Word, word, words_of}
 use Rattle.lv_cert.specs.Values.{Values, Sets}
-use Rattle.lv_cert.specs.Lines.{Line, keep_line, pair_lines, input_line, clause_line, step_line, step_lines, set_lines, query_lines, kept_lines, first_lines, inputs_lines, lines_of}
-use Rattle.lv_cert.specs.Grammar.{AreRising, AreWide, AreOver, AreSteps, IsQuery, IsFor}
-use Rattle.lv_cert.specs.Parts.{Part, turns_fit, turns_words}
-use Rattle.lv_cert.specs.Sections.{keep_part, above, same, kept_part, pair_part, first_part, input_part, inputs_part, clause_part, clauses, step_part, one_more, steps, most, lines_part, query_part}
-use Rattle.lv_cert.specs.Whole.{StepValue, QueryValue, FirstValue, CertValue, step_of, set_in, lines_in, values_in, sets_in, cert_part}
+use Rattle.lv_cert.specs.Lines.{Line, keep_line, pair_lines, input_line, clause_line, step_lines, query_lines, kept_lines, first_lines, inputs_lines, lines_of}
+use Rattle.lv_cert.specs.Grammar.{AreSteps, IsQuery, IsFor}
+use Rattle.lv_cert.specs.Parts.{turns_fit, turns_words}
+use Rattle.lv_cert.specs.Sections.{same, kept_part, pair_part, first_part, input_part, inputs_part, step_part, one_more, query_part}
+use Rattle.lv_cert.specs.Whole.{QueryValue, FirstValue, CertValue, step_of, set_in, lines_in, values_in, sets_in, cert_part}
 use Rattle.lv_cert.specs.declared.cert.Shape.{Shape}
 use Rattle.lv_cert.proofs.Texts.{words_of-append, AreFilled, are_filled-append}
 use Rattle.lv_cert.proofs.Sectioning.{keeps_out, keeps_in, keeps_few, pairs_out, pairs_in, inputs_out, inputs_in, clauses_out, clauses_in, steps_out, steps_in}

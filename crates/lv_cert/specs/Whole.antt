@@ -1,5 +1,5 @@
 -- The whole of a certificate as parts, and what the reader's values show of them.
-use Rattle.std.specs.Prelude.{◌≡◌, ℕ, false, true, List, map, length, codes}
+use Rattle.std.specs.Prelude.{◌≡◌, ℕ, false, true, List, map, codes}
 use Rattle.lv_clauses.specs.Literals.{Lit}
 use Rattle.lv_clauses.specs.Sets.{SetValue}
 use Rattle.lv_clauses.specs.Derivations.{Step}

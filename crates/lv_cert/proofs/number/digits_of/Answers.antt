@@ -1,5 +1,4 @@
-use Rattle.std.proofs.Common.{◌≡◌, ℕ, ◌+◌, ◌-◌, ◌*◌, ◌≤◌, ◌<◌, ◌^◌, Bool, true, false, List, [], ◌∷◌, ◌++◌, map, drop, take, length, get_or, codes, decimal, refl, sym, ap, ◌∙◌, subst, arith}
-use Rattle.std.proofs.lemmas.Grind.{common_steps}
+use Rattle.std.proofs.Common.{ℕ, ◌+◌, ◌≤◌, ◌<◌, drop, length, get_or, arith}
 use Rattle.lv_cert.proofs.Numbers.{continues_start, continues_on, number_read, none_on}
 use Rattle.lv_cert.proofs.Writing.{drop_nat, drop_all}
 use Rattle.lv_cert.proofs.number.digits_of.Goals as goal

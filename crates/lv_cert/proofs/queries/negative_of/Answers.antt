@@ -1,4 +1,4 @@
-use Rattle.std.proofs.Common.{◌≡◌, ℕ, ◌+◌, ◌-◌, ◌≤◌, take, drop, length, decimal, None, subst, arith, length-drop}
+use Rattle.std.proofs.Common.{◌≡◌, ◌+◌, ◌-◌, ◌≤◌, take, drop, length, decimal, None, subst, arith, length-drop}
 use Rattle.lv_clauses.proofs.Lists.{take-whole}
 use Rattle.lv_cert.specs.Parts.{IsReadOr}
 use Rattle.lv_cert.proofs.LiteralWords.{negative_none}

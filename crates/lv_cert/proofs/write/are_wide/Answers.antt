@@ -1,4 +1,3 @@
-use Rattle.std.proofs.Common.{◌<◌, ◌^◌, length, get_or, arith}
 use Rattle.lv_cert.proofs.Orders.{wide_from}
 use Rattle.lv_cert.proofs.write.are_wide.Goals as goal
 

@@ -1,5 +1,3 @@
-use Rattle.std.proofs.Common.{◌≡◌, ℕ, zero, suc, ◌+◌, ◌-◌, ◌*◌, ◌≤◌, ◌<◌, ◌^◌, Bool, true, false, List, [], ◌∷◌, ◌++◌, map, drop, take, length, get_or, slice_get, Some, codes, decimal, refl, sym, ap, ◌∙◌, subst, arith, rules}
-use Rattle.std.proofs.lemmas.Grind.{common_steps}
 use Rattle.lv_cert.proofs.Writing.{clauses_on}
 use Rattle.lv_cert.proofs.write.push_clauses.Goals as goal
 

@@ -1,5 +1,4 @@
-use Rattle.std.proofs.Common.{◌≡◌, ℕ, zero, suc, ◌+◌, ◌-◌, ◌*◌, ◌≤◌, ◌<◌, ◌^◌, Bool, true, false, List, [], ◌∷◌, ◌++◌, map, drop, take, length, get_or, slice_get, Some, codes, decimal, refl, sym, ap, ◌∙◌, subst, arith, rules, Result, Ok, Err, OnOk}
-use Rattle.std.proofs.lemmas.Grind.{common_steps}
+use Rattle.std.proofs.Common.{◌≡◌, ℕ, true, false, List, [], ◌∷◌, ◌++◌, codes, decimal, ◌∙◌, Result, Ok, Err, OnOk}
 use Rattle.lv_clauses.specs.Literals.{Lit}
 use Rattle.lv_clauses.specs.Derivations.{Step}
 use Rattle.lv_cert.specs.Words.{word, spelled, spell, text_of}

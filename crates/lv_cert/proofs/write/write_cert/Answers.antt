@@ -1,8 +1,6 @@
-use Rattle.std.proofs.Common.{◌≡◌, ℕ, ◌+◌, ◌-◌, ◌*◌, ◌≤◌, ◌<◌, ◌^◌, Bool, true, false, List, [], ◌∷◌, ◌++◌, map, drop, take, length, get_or, slice_get, Some, codes, decimal, refl, sym, ap, ◌∙◌, subst, arith, rules}
-use Rattle.std.proofs.lemmas.Grind.{common_steps}
-use Rattle.lv_cert.specs.Words.{word, spelled, text_of}
+use Rattle.std.proofs.Common.{◌≡◌, ℕ, List, [], ◌++◌, codes, ◌∙◌}
 use Rattle.lv_cert.specs.Values.{values_of, sets_of}
-use Rattle.lv_cert.specs.Lines.{kept_lines, first_lines, inputs_lines, query_lines, lines_of}
+use Rattle.lv_cert.specs.Lines.{kept_lines, first_lines, inputs_lines, query_lines}
 use Rattle.lv_cert.proofs.Writing.{whole_text}
 use Rattle.lv_cert.proofs.Orders.{for_written}
 use Rattle.lv_cert.proofs.write.write_cert.Goals as goal

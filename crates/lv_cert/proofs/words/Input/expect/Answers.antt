@@ -1,7 +1,6 @@
-use Rattle.std.proofs.Common.{◌≡◌, ℕ, ◌+◌, ◌-◌, ◌*◌, ◌≤◌, ◌<◌, ◌^◌, Bool, true, false, List, [], ◌∷◌, ◌++◌, map, drop, take, length, get_or, codes, decimal, refl, sym, ap, ◌∙◌, subst, arith, rules}
-use Rattle.std.proofs.lemmas.Grind.{common_steps}
+use Rattle.std.proofs.Common.{sym, ap, arith, rules}
 use Rattle.lv_cert.specs.Words.{word}
-use Rattle.lv_cert.proofs.Reading.{fails_nothing, fails_word, fails_last, fails_letters}
+use Rattle.lv_cert.proofs.Reading.{fails_nothing, fails_word, fails_last}
 use Rattle.lv_cert.proofs.words.Input.expect.Goals as goal
 
 pub returns-in_default : goal.returns-in_default

@@ -1,6 +1,5 @@
-use Rattle.std.proofs.Common.{◌≡◌, ℕ, ◌+◌, ◌-◌, ◌*◌, ◌≤◌, ◌<◌, ◌^◌, Bool, true, false, List, [], ◌∷◌, ◌++◌, map, drop, take, length, get_or, codes, decimal, refl, sym, ap, ◌∙◌, subst, arith, rules}
-use Rattle.std.proofs.lemmas.Grind.{common_steps}
-use Rattle.lv_cert.proofs.Reading.{fails_nothing, fails_word, fails_last, fails_letters}
+use Rattle.std.proofs.Common.{◌<◌, ◌^◌, decimal, arith, rules}
+use Rattle.lv_cert.proofs.Reading.{fails_nothing, fails_last, fails_letters}
 use Rattle.lv_cert.proofs.words.Input.value.Goals as goal
 
 pub returns-in_default : goal.returns-in_default

@@ -1,0 +1,14 @@
+pub mod Leading
+pub mod Combining
+pub mod Texts
+pub mod Writing
+pub mod Numbers
+pub mod Orders
+pub mod LiteralWords
+pub mod Finding
+pub mod Reading
+pub mod Loops
+pub mod Facts
+pub mod Wholes
+pub mod Judging
+pub mod Sectioning

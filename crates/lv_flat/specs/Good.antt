@@ -23,9 +23,13 @@ good_target_step S (FlatTarget-F.Signal name ss) =
     is_declared_sort (signal_at S name.signal).sort && good_selects (signal_at S name.signal) (map (judge_select S) ss)
 good_target_step S (FlatTarget-F.Cat ts) = list_all (λ b. b) ts
 
--- each name is that of a signal or clock, with selects that it takes, and all bits together are 1 to 128
+-- each name is that of a signal or clock, with selects that it takes
+unfoldable pub are_targets : Signals → FlatTarget → Bool
+are_targets S t = fold_target Bool (good_target_step S) t
+
+-- all bits together are 1 to 128
 unfoldable pub good_target : Signals → FlatTarget → Bool
-good_target S t = is_width (bits_in (places nowhere (pieces S t))) && fold_target Bool (good_target_step S) t
+good_target S t = is_width (bits_in (places nowhere (pieces S t))) && are_targets S t
 
 abbrev pub good_or : Option Bool → Bool
 good_or None = true

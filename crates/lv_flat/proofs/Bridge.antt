@@ -16,16 +16,16 @@ use Rattle.lv_source.specs.Views.{Aim, Seen, View, Way, Continuous, Combinationa
 use Rattle.lv_flat.specs.declared.expr.FlatExpr.{FlatExpr}
 use Rattle.lv_flat.specs.declared.stmt.FlatTarget.{FlatTarget}
 use Rattle.lv_flat.specs.declared.stmt.FlatStmt.{FlatStmt}
-use Rattle.lv_flat.specs.declared.part.Edge.{Edge as FlatEdge}
+use Rattle.lv_flat.specs.declared.stmt.FlatName.{FlatName}
 use Rattle.lv_flat.specs.declared.part.FlatBody.{FlatBody}
 use Rattle.lv_flat.specs.declared.part.FlatBody.TheVariants as b
 use Rattle.lv_flat.specs.declared.part.FlatPart.{FlatPart}
-use Rattle.lv_flat.specs.Signals.{Signals}
+use Rattle.lv_flat.specs.Signals.{Signals, signal_at}
 use Rattle.lv_flat.specs.Judged.{reading}
 use Rattle.lv_flat.specs.Executing.{pieces}
 use Rattle.lv_flat.specs.Executing as flat
 use Rattle.lv_flat.specs.Flows as flats
-use Rattle.lv_flat.specs.FlatViews.{edge_sort, flat_view}
+use Rattle.lv_flat.specs.FlatViews.{flat_view}
 use Rattle.lv_flat.proofs.Doings.{Done, done_by, Goal, goal_of}
 use Rattle.lv_flat.proofs.FlatDoings.{flat_done}
 use Rattle.lv_flat.proofs.SourceDoings.{source_done}
@@ -113,9 +113,9 @@ module _ (S : Signals) (path : Name) (place : ℕ) (clocks : List ℕ) where
   pub flat-Combinational : (t : FlatStmt) → flat_view S (flat_part (b.Combinational t)) ≡ view_by part_at clocks Combinational (flat_done S t)
   flat-Combinational t = block_same part_at clocks Combinational (flat.executes S t) (flats.flow S t) (flats.summary S t)
 
-  pub flat-Clocked : (e : FlatEdge) (t : FlatStmt) →
-      flat_view S (flat_part (b.Clocked e t)) ≡ view_by part_at clocks (Edge (edge_sort S e.name) e.place) (flat_done S t)
-  flat-Clocked e t = block_same part_at clocks (Edge (edge_sort S e.name) e.place) (flat.executes S t) (flats.flow S t) (flats.summary S t)
+  pub flat-Clocked : (e : FlatName) (t : FlatStmt) →
+      flat_view S (flat_part (b.Clocked e t)) ≡ view_by part_at clocks (Edge (signal_at S e.signal).sort e.place) (flat_done S t)
+  flat-Clocked e t = block_same part_at clocks (Edge (signal_at S e.signal).sort e.place) (flat.executes S t) (flats.flow S t) (flats.summary S t)
 
   -- ---- from the source to the flat
 
@@ -127,8 +127,8 @@ module _ (S : Signals) (path : Name) (place : ℕ) (clocks : List ℕ) where
       flat_view S (flat_part (b.Combinational t)) ≡ view_of (record { at = part_at; clocks = clocks; body = Comb names s })
   combinational_alike names s t h = flat-Combinational t ∙ ap (view_by part_at clocks Combinational) h ∙ sym (source-Comb part_at clocks names s)
 
-  pub clocked_alike : (names : Names) (c : Ident) (s : Stmt) (e : FlatEdge) (t : FlatStmt) →
-      edge_sort S e.name ≡ (known (names (alone c.name))).sort → e.place ≡ c.place → flat_done S t ≡ source_done names s →
+  pub clocked_alike : (names : Names) (c : Ident) (s : Stmt) (e : FlatName) (t : FlatStmt) →
+      (signal_at S e.signal).sort ≡ (known (names (alone c.name))).sort → e.place ≡ c.place → flat_done S t ≡ source_done names s →
       flat_view S (flat_part (b.Clocked e t)) ≡ view_of (record { at = part_at; clocks = clocks; body = Clocked names c s })
   clocked_alike names c s e t h k l =
       flat-Clocked e t ∙ two (λ (w : Way) (d : Done). view_by part_at clocks w d) _ _ _ _ (two (λ (x : Sort) (p : ℕ). Edge x p) _ _ _ _ h k) l ∙

@@ -1,14 +1,12 @@
 -- The view of a flat part, as that of a part of the source.
 use Rattle.std.specs.Prelude.{ℕ, List, [], ◌++◌, map, flat_map}
-use Rattle.lv_source.specs.Names.{Sort, Valuation, Constant, Index, Other}
+use Rattle.lv_source.specs.Names.{Valuation}
 use Rattle.lv_source.specs.Places.{Bit, Place}
 use Rattle.lv_source.specs.Meaning.{index_reads}
 use Rattle.lv_source.specs.Effect.{Piece, places, bits_in, write_all, assigned, left_of}
 use Rattle.lv_source.specs.Flow.{Event, writes_of, block_writes, block_reads}
 use Rattle.lv_source.specs.Summary.{Summary, nothing_done}
 use Rattle.lv_source.specs.Views.{Way, Continuous, Combinational, Edge, View, aim_of, seen_of}
-use Rattle.lv_flat.specs.declared.part.EdgeName.{EdgeName}
-use Rattle.lv_flat.specs.declared.part.EdgeName.TheVariants as n
 use Rattle.lv_flat.specs.declared.part.FlatBody.{FlatBody}
 use Rattle.lv_flat.specs.declared.part.FlatBody.TheVariants as b
 use Rattle.lv_flat.specs.declared.part.FlatPart.{FlatPart}
@@ -17,17 +15,10 @@ use Rattle.lv_flat.specs.Judged.{reading}
 use Rattle.lv_flat.specs.Executing.{pieces, executes}
 use Rattle.lv_flat.specs.Flows.{flow, summary}
 
--- what the name behind `posedge` is declared as
-abbrev pub edge_sort : Signals → EdgeName → Sort
-edge_sort S (n.Signal k) = (signal_at S k).sort
-edge_sort S (n.Constant x) = Constant x
-edge_sort S (n.Index g) = Index g
-edge_sort S n.Other = Other
-
 abbrev pub way_of : Signals → FlatBody → Way
 way_of S (b.Assign t x) = Continuous
 way_of S (b.Combinational s) = Combinational
-way_of S (b.Clocked e s) = Edge (edge_sort S e.name) e.place
+way_of S (b.Clocked e s) = Edge (signal_at S e.signal).sort e.place
 
 abbrev pub drives : Signals → FlatBody → List Bit
 drives S (b.Assign t x) = writes_of (pieces S t)

@@ -52,7 +52,7 @@ good_stmt S s = fold_stmt Bool Bool (good_step S) (good_arm S) s
 abbrev pub good_body : Signals → FlatBody → Bool
 good_body S (b.Assign t x) = good_target S t && is_good S x
 good_body S (b.Combinational s) = good_stmt S s
-good_body S (b.Clocked e s) = good_stmt S s
+good_body S (b.Clocked e s) = is_declared_sort (signal_at S e.signal).sort && good_stmt S s
 
 abbrev pub are_good : Signals → List FlatPart → Bool
 are_good S ps = list_all (λ p. good_body S p.body) ps

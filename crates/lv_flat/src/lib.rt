@@ -10,7 +10,7 @@ mod stmt;
 
 pub use expr::{FlatExpr, FlatSelect};
 pub use flat::Flat;
-pub use part::{Edge, EdgeName, FlatBody, FlatPart};
+pub use part::{FlatBody, FlatPart};
 pub use signal::Signal;
 pub use sort::Sort;
 pub use stmt::{FlatArm, FlatName, FlatStmt, FlatTarget};

@@ -1,28 +1,8 @@
 use crate::expr::FlatExpr;
-use crate::stmt::{FlatStmt, FlatTarget};
+use crate::stmt::{FlatName, FlatStmt, FlatTarget};
 use lv_bits::Text;
 use lv_held::Held;
 use sqlite_items::Items;
-
-/// What the name behind `posedge` stands for.
-#[derive(Clone, Copy, Debug, PartialEq, Eq)]
-pub enum EdgeName {
-    /// A signal or a clock by its number.
-    Signal(u64),
-    /// A constant with this value.
-    Constant(u128),
-    /// A genvar, or else an integer, outside of its loop.
-    Index(bool),
-    /// An instance, a label or no name at all.
-    Other,
-}
-
-/// The name behind `posedge`, with its place in the text.
-#[derive(Clone, Copy, Debug, PartialEq, Eq)]
-pub struct Edge {
-    pub name: EdgeName,
-    pub place: u64,
-}
 
 /// What a part does.
 #[derive(Drop)]
@@ -30,7 +10,8 @@ pub enum FlatBody {
     /// A continuous assignment, or the connection of a port.
     Assign(FlatTarget, Held<FlatExpr>),
     Combinational(Held<FlatStmt>),
-    Clocked(Edge, Held<FlatStmt>),
+    /// With the name behind `posedge`.
+    Clocked(FlatName, Held<FlatStmt>),
 }
 
 /// An assignment, a connection or a block, with the path of its scope and its place in the text.

@@ -2,8 +2,8 @@
 use Rattle.std.proofs.Common.{◌≡◌, ℕ, Bool, true, false, List, [], ◌∷◌, map, refl, Some, None, ap, ◌∙◌}
 use mathlib.Core.Path.{fun_ext}
 use Rattle.lv_source.specs.Effect.{State, Piece, Label, Arm, case_of, one_by_one, if_of, now_of, later_of}
-use Rattle.lv_source.specs.Flow.{Flow}
-use Rattle.lv_source.specs.Summary.{Summary}
+use Rattle.lv_source.specs.Flow.{Flow, still}
+use Rattle.lv_source.specs.Summary.{Summary, nothing_done}
 use Rattle.lv_source.specs.Views.{seen_of}
 use Rattle.lv_flat.specs.declared.expr.FlatExpr.{FlatExpr}
 use Rattle.lv_flat.specs.declared.stmt.FlatTarget.{FlatTarget}
@@ -34,11 +34,13 @@ module _ (S : Signals) where
 
   pub flat-If : (c : FlatExpr) (s : FlatStmt) → flat_done (b.If c s None) ≡ done_if (reading S c) (flat_done s) done_null
   flat-If c s =
-      by_same _ _ _ _ _ _ (fun_ext (λ st. f.executes-If S c s st)) (f.flow-If S c s) (f.summary-If S c s) ∙ if_by (reading S c) _ _ _ _ _ _
+      by_same _ _ _ _ _ _ (fun_ext (λ st. f.executes-If S c s st)) (f.flow-If S c s) (f.summary-If S c s) ∙
+      if_by (reading S c) (executes S s) (λ z. z) (flow S s) still (summary S s) nothing_done
 
   pub flat-If_else : (c : FlatExpr) (s t : FlatStmt) → flat_done (b.If c s (Some t)) ≡ done_if (reading S c) (flat_done s) (flat_done t)
   flat-If_else c s t =
-      by_same _ _ _ _ _ _ (fun_ext (λ st. f.executes-If_else S c s t st)) (f.flow-If_else S c s t) (f.summary-If_else S c s t) ∙ if_by (reading S c) _ _ _ _ _ _
+      by_same _ _ _ _ _ _ (fun_ext (λ st. f.executes-If_else S c s t st)) (f.flow-If_else S c s t) (f.summary-If_else S c s t) ∙
+      if_by (reading S c) (executes S s) (executes S t) (flow S s) (flow S t) (summary S s) (summary S t)
 
   abbrev pub arm_labels_of : FlatArm → List Label
   arm_labels_of a = map (label_of S) a.labels

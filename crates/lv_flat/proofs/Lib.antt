@@ -10,3 +10,4 @@ pub mod Selects
 pub mod SourceDoings
 pub mod StmtFolds
 pub mod Targets
+pub mod Widths

@@ -104,7 +104,7 @@ module _ (S : Signals) where
     alike-Rep count es n rs h k =
         ap (λ (x : Judged). x.reading) (j.judge-Rep S count es) ∙
         ap (λ (zs : List Reading). read_step names (Expr-F.Rep (number count) zs)) (map-map (λ (x : Judged). x.reading) (judge S) es ∙ k) ∙
-        repeats count n rs h
+        repeats names count n rs h
 
     pub alike-Cast : (signed : Bool) (a : FlatExpr) (r : Reading) → reading S a ≡ r → reading S (e.Cast signed a) ≡ read_step names (Expr-F.Cast signed r)
     alike-Cast signed a r h = ap (λ (x : Judged). x.reading) (j.judge-Cast S signed a) ∙ ap (λ (z : Reading). read_step names (Expr-F.Cast signed z)) h

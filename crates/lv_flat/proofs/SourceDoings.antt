@@ -11,8 +11,8 @@ use Rattle.lv_ast.specs.Names.{Name}
 use Rattle.lv_source.specs.Names.{Names}
 use Rattle.lv_source.specs.Meaning.{read_expr}
 use Rattle.lv_source.specs.Effect.{State, Effect, Piece, Label, ArmOf, arm_step, effect_step, executes, pieces, label_of, read_arm, one_by_one, case_of, with_index, turns}
-use Rattle.lv_source.specs.Flow.{Flow, Flows, flow_step, flow, is_extended, all_flows, case_flow_of}
-use Rattle.lv_source.specs.Summary.{Summary, Summaries, summary_step, summary, all_summaries, case_summary_of}
+use Rattle.lv_source.specs.Flow.{Flow, Flows, flow_step, flow, is_extended, still, all_flows, case_flow_of}
+use Rattle.lv_source.specs.Summary.{Summary, Summaries, summary_step, summary, nothing_done, all_summaries, case_summary_of}
 use Rattle.lv_source.specs.Views.{seen_of}
 use Rattle.lv_ast.proofs.StmtFolds as fold
 use Rattle.lv_source.proofs.Bridges.{map-map}
@@ -45,7 +45,7 @@ module _ (names : Names) where
       (ap (λ (f : Effect). f names) (fold.fold_stmt-If Effect (ArmOf Effect) effect_step arm_step c s))
       (ap (λ (f : Flows). f names) (fold.fold_stmt-If Flows (ArmOf Flows) flow_step arm_step c s))
       (ap (λ (f : Summaries). f names) (fold.fold_stmt-If Summaries (ArmOf Summaries) summary_step arm_step c s)) ∙
-      if_by (read_expr names c) _ _ _ _ _ _
+      if_by (read_expr names c) (executes names s) (λ z. z) (flow names s) still (summary names s) nothing_done
 
   pub source-If_else : (c : Expr) (s t : Stmt) → source_done (b.If c s (Some t)) ≡ done_if (read_expr names c) (source_done s) (source_done t)
   unfolding executes flow summary
@@ -54,7 +54,7 @@ module _ (names : Names) where
       (ap (λ (f : Effect). f names) (fold.fold_stmt-If_else Effect (ArmOf Effect) effect_step arm_step c s t))
       (ap (λ (f : Flows). f names) (fold.fold_stmt-If_else Flows (ArmOf Flows) flow_step arm_step c s t))
       (ap (λ (f : Summaries). f names) (fold.fold_stmt-If_else Summaries (ArmOf Summaries) summary_step arm_step c s t)) ∙
-      if_by (read_expr names c) _ _ _ _ _ _
+      if_by (read_expr names c) (executes names s) (executes names t) (flow names s) (flow names t) (summary names s) (summary names t)
 
   abbrev pub arm_labels_of : Arm → List Label
   arm_labels_of a = map (label_of names) a.labels

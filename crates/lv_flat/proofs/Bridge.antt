@@ -1,7 +1,6 @@
 -- The view of a flat part is that of the part of the source that it came from.
 use Rattle.std.proofs.Common.{◌≡◌, ℕ, List, [], ◌∷◌, ◌++◌, map, refl, sym, ap, ◌∙◌}
 use Rattle.std.specs.Prelude.{flat_map}
-use mathlib.Core.Path.{fun_ext}
 use Rattle.lv_ast.specs.declared.stmt.Ident.{Ident}
 use Rattle.lv_ast.specs.declared.stmt.Stmt.{Stmt}
 use Rattle.lv_ast.specs.Names.{Name, alone}
@@ -11,7 +10,7 @@ use Rattle.lv_source.specs.Meaning.{Reading}
 use Rattle.lv_source.specs.Effect.{Piece, State, executes, write_all, assigned, bits_in, left_of}
 use Rattle.lv_source.specs.Flow.{Event, Flow, flow, block_writes, block_reads, event_writes}
 use Rattle.lv_source.specs.Summary.{Summary, summary, nothing_done}
-use Rattle.lv_source.specs.Parts.{Part, At, Body, Assign, Comb, Clocked}
+use Rattle.lv_source.specs.Parts.{At, Assign, Comb, Clocked}
 use Rattle.lv_source.specs.Views.{Aim, Seen, View, Way, Continuous, Combinational, Edge, aim_of, seen_of, seen_writes, view_of}
 use Rattle.lv_flat.specs.declared.expr.FlatExpr.{FlatExpr}
 use Rattle.lv_flat.specs.declared.stmt.FlatTarget.{FlatTarget}

@@ -1,13 +1,13 @@
 -- What the view of a block tells of a statement, put together from what it tells of the parts.
-use Rattle.std.proofs.Common.{◌≡◌, ℕ, ◌+◌, Bool, true, false, List, [], ◌∷◌, ◌++◌, map, refl, sym, ap, ◌∙◌, Option, Some, None}
-use Rattle.std.specs.Prelude.{flat_map, filter, if◌then◌else◌, sum, length}
+use Rattle.std.proofs.Common.{◌≡◌, ℕ, Bool, true, false, List, [], ◌∷◌, ◌++◌, map, refl, sym, ap, ◌∙◌}
+use Rattle.std.specs.Prelude.{flat_map, filter, if◌then◌else◌}
 use mathlib.Core.Path.{fun_ext}
 use Rattle.lv_source.specs.Names.{Valuation, Declared, known, is_signal_sort}
 use Rattle.lv_source.specs.Values.{nowhere}
 use Rattle.lv_source.specs.Places.{Bit, Place, place_of}
-use Rattle.lv_source.specs.Meaning.{Reading, Choice, meant, all_constant, index_reads, bits_named}
-use Rattle.lv_source.specs.Effect.{Piece, State, Label, Arm, arm_labels, aimed, piece_place, places, bits_in, write_all, assigned, case_of, taken_of, common_of, fits_label, selected_of, Width, one_by_one, if_of, is_met, now_of, later_of}
-use Rattle.lv_source.specs.Flow.{Event, Flow, writes_of, still, then_flow, either_flow, all_flows, branches, if_flow, case_flow_of, write_flow, no_match}
+use Rattle.lv_source.specs.Meaning.{Reading, meant, all_constant, index_reads, bits_named}
+use Rattle.lv_source.specs.Effect.{Piece, State, Label, Arm, arm_labels, aimed, piece_place, places, bits_in, write_all, assigned, case_of, one_by_one, if_of, is_met, now_of, later_of}
+use Rattle.lv_source.specs.Flow.{Event, Flow, writes_of, either_flow, all_flows, if_flow, case_flow_of, write_flow}
 use Rattle.lv_source.specs.Summary.{Summary, nothing_done, all_summaries, if_summary, case_summary_of, write_summary}
 use Rattle.lv_source.specs.Views.{Aim, Seen, aim_of, seen_of}
 use Rattle.lv_source.proofs.Bridges.{two, map-map, map-join, filter-map}

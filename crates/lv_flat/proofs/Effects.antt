@@ -1,6 +1,6 @@
 -- What a statement does, its paths and what they have in common, by the form of the tree.
-use Rattle.std.proofs.Common.{◌≡◌, ℕ, true, false, List, [], ◌∷◌, map, refl, Some, None, ap, ◌∙◌}
-use Rattle.lv_source.specs.Effect.{State, Piece, Arm, case_of, one_by_one, if_of, now_of, later_of}
+use Rattle.std.proofs.Common.{◌≡◌, ℕ, true, false, List, map, refl, Some, None, ap}
+use Rattle.lv_source.specs.Effect.{State, Arm, case_of, one_by_one, if_of, now_of, later_of}
 use Rattle.lv_source.specs.Flow.{Flow, still, all_flows, if_flow, case_flow_of, write_flow}
 use Rattle.lv_source.specs.Summary.{Summary, nothing_done, all_summaries, if_summary, case_summary_of, write_summary}
 use Rattle.std.specs.Prelude.{Bool}
@@ -9,7 +9,6 @@ use Rattle.lv_flat.specs.declared.stmt.FlatTarget.{FlatTarget}
 use Rattle.lv_flat.specs.declared.stmt.FlatArm.{FlatArm}
 use Rattle.lv_flat.specs.declared.stmt.FlatStmt.{FlatStmt}
 use Rattle.lv_flat.specs.declared.stmt.FlatStmt.TheVariants as b
-use Rattle.lv_flat.specs.Trees.{fold_stmt}
 use Rattle.lv_flat.specs.Signals.{Signals}
 use Rattle.lv_flat.specs.Judged.{judge, reading}
 use Rattle.lv_flat.specs.Executing.{Effect, pieces, label_of, arm_step, effect_step, executes}

@@ -1,7 +1,7 @@
 -- What a flat statement does, by its parts.
-use Rattle.std.proofs.Common.{◌≡◌, ℕ, Bool, true, false, List, [], ◌∷◌, map, refl, Some, None, ap, ◌∙◌}
+use Rattle.std.proofs.Common.{◌≡◌, ℕ, Bool, List, map, Some, None, ap, ◌∙◌}
 use mathlib.Core.Path.{fun_ext}
-use Rattle.lv_source.specs.Effect.{State, Piece, Label, Arm, case_of, one_by_one, if_of, now_of, later_of}
+use Rattle.lv_source.specs.Effect.{State, Label}
 use Rattle.lv_source.specs.Flow.{Flow, still}
 use Rattle.lv_source.specs.Summary.{Summary, nothing_done}
 use Rattle.lv_source.specs.Views.{seen_of}
@@ -15,8 +15,7 @@ use Rattle.lv_flat.specs.Judged.{judge, reading}
 use Rattle.lv_flat.specs.Executing.{pieces, label_of, executes}
 use Rattle.lv_flat.specs.Flows.{flow, summary}
 use Rattle.lv_flat.proofs.Effects as f
-use Rattle.lv_flat.proofs.Doings.{Done, done_by, each_by, three, goal_of, done_null, done_all, done_if, done_case, done_now, done_later, all_by, if_by, case_by, now_by, later_by, arm_with}
-use Rattle.lv_source.proofs.Bridges.{two}
+use Rattle.lv_flat.proofs.Doings.{Done, done_by, three, goal_of, done_null, done_all, done_if, done_case, done_now, done_later, all_by, if_by, case_by, now_by, later_by, arm_with}
 
 by_same : (f g : State → State) (w u : Flow) (m n : Summary) → f ≡ g → w ≡ u → m ≡ n → done_by f w m ≡ done_by g u n
 by_same f g w u m n h k l = three _ _ _ _ _ _ h (ap (λ (z : Flow). map seen_of z.events) k) l

@@ -1,5 +1,5 @@
 -- A flat expression reads as the one of the source that it came from: one law for each kind of node.
-use Rattle.std.proofs.Common.{◌≡◌, ℕ, Bool, true, List, [], ◌∷◌, map, refl, sym, ap, ◌∙◌}
+use Rattle.std.proofs.Common.{◌≡◌, ℕ, Bool, true, List, [], map, refl, sym, ap, ◌∙◌}
 use Rattle.std.specs.Prelude.{◌*◌, ◌&&◌, ◌++◌, false, flat_map}
 use Rattle.std.specs.List.{list_all}
 use Rattle.lv_bits.specs.declared.op.Op.{Op}

@@ -1,5 +1,5 @@
 -- Selects whose bounds and widths are the same numbers name the same bits.
-use Rattle.std.proofs.Common.{◌≡◌, ℕ, ◌+◌, ◌-◌, Bool, true, false, ◌&&◌, List, [], ◌∷◌, ◌++◌, length, map, refl, sym, ap, ◌∙◌, Option, Some, None}
+use Rattle.std.proofs.Common.{◌≡◌, ℕ, ◌+◌, ◌-◌, Bool, true, ◌&&◌, List, [], ◌∷◌, ◌++◌, length, map, refl, ap, ◌∙◌, Option, Some, None}
 use Rattle.std.specs.Prelude.{max, min, if◌then◌else◌, flat_map, ℤ, pos, negsuc, ◌-ℤ◌}
 use Rattle.std.specs.List.{list_all, AllZip}
 use mathlib.Core.Path.{fun_ext}

@@ -1,5 +1,5 @@
 -- What a statement of the source does, by its parts.
-use Rattle.std.proofs.Common.{◌≡◌, ℕ, Bool, true, false, List, [], ◌∷◌, map, refl, Option, Some, None, ap, ◌∙◌}
+use Rattle.std.proofs.Common.{◌≡◌, ℕ, Bool, List, map, refl, Option, Some, None, ap, ◌∙◌}
 use mathlib.Core.Path.{fun_ext}
 use Rattle.lv_ast.specs.declared.expr.Expr.{Expr}
 use Rattle.lv_ast.specs.declared.stmt.Ident.{Ident}
@@ -7,16 +7,15 @@ use Rattle.lv_ast.specs.declared.stmt.Target.{Target}
 use Rattle.lv_ast.specs.declared.stmt.Arm.{Arm}
 use Rattle.lv_ast.specs.declared.stmt.Stmt.{Stmt}
 use Rattle.lv_ast.specs.declared.stmt.Stmt.TheVariants as b
-use Rattle.lv_ast.specs.Names.{Name}
 use Rattle.lv_source.specs.Names.{Names}
 use Rattle.lv_source.specs.Meaning.{read_expr}
-use Rattle.lv_source.specs.Effect.{State, Effect, Piece, Label, ArmOf, arm_step, effect_step, executes, pieces, label_of, read_arm, one_by_one, case_of, with_index, turns}
+use Rattle.lv_source.specs.Effect.{State, Effect, Label, ArmOf, arm_step, effect_step, executes, pieces, label_of, read_arm, one_by_one, case_of, with_index, turns}
 use Rattle.lv_source.specs.Flow.{Flow, Flows, flow_step, flow, is_extended, still, all_flows, case_flow_of}
 use Rattle.lv_source.specs.Summary.{Summary, Summaries, summary_step, summary, nothing_done, all_summaries, case_summary_of}
 use Rattle.lv_source.specs.Views.{seen_of}
 use Rattle.lv_ast.proofs.StmtFolds as fold
 use Rattle.lv_source.proofs.Bridges.{map-map}
-use Rattle.lv_flat.proofs.Doings.{Done, done_by, each_by, three, goal_of, done_null, done_all, done_if, done_case, done_now, done_later, all_by, if_by, case_by, now_by, later_by, arm_with}
+use Rattle.lv_flat.proofs.Doings.{Done, done_by, three, goal_of, done_null, done_all, done_if, done_case, done_now, done_later, all_by, if_by, case_by, now_by, later_by, arm_with}
 
 by_same : (f g : State → State) (w u : Flow) (m n : Summary) → f ≡ g → w ≡ u → m ≡ n → done_by f w m ≡ done_by g u n
 by_same f g w u m n h k l = three _ _ _ _ _ _ h (ap (λ (z : Flow). map seen_of z.events) k) l

@@ -1,5 +1,5 @@
 -- The widths of what is good, and of signals.
-use Rattle.std.proofs.Common.{◌≡◌, ℕ, ◌≤◌, arith, Bool, true, ◌&&◌, refl, sym, ap, ◌∙◌}
+use Rattle.std.proofs.Common.{◌≡◌, ℕ, ◌≤◌, arith, true, sym, ap, ◌∙◌}
 use Rattle.std.proofs.lemmas.Bool.Decides.{nat_tests}
 use Rattle.lv_source.specs.Names.{width_of}
 use Rattle.lv_source.specs.Values.{nowhere}
@@ -57,4 +57,4 @@ module _ (S : Signals) where
   target-names t h = and-right (is_width (bits_in (places nowhere (pieces S t)))) (are_targets S t) h
 
 pub declared-width : (s : Signal) → width_of (declared s) ≡ s.width
-declared-width s = s.ok.wide
+declared-width s = s.wide

@@ -1,5 +1,5 @@
 -- What a flat statement does.
-use Rattle.std.specs.Prelude.{ℕ, Bool, List, [], ◌∷◌, map, flat_map, Option, Some, None}
+use Rattle.std.specs.Prelude.{ℕ, List, [], ◌∷◌, map, flat_map, Option, Some, None}
 use Rattle.lv_ast.specs.declared.expr.Path.{Path}
 use Rattle.lv_source.specs.Effect.{Piece, State, Label, Arm, case_of, one_by_one, if_of, now_of, later_of}
 use Rattle.lv_flat.specs.declared.expr.FlatExpr.{FlatExpr}

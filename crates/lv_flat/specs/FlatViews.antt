@@ -1,5 +1,5 @@
 -- The view of a flat part, as that of a part of the source.
-use Rattle.std.specs.Prelude.{ℕ, List, [], ◌++◌, map, flat_map}
+use Rattle.std.specs.Prelude.{List, [], ◌++◌, map, flat_map}
 use Rattle.lv_source.specs.Names.{Valuation}
 use Rattle.lv_source.specs.Places.{Bit, Place}
 use Rattle.lv_source.specs.Meaning.{index_reads}

@@ -1,5 +1,5 @@
 -- The paths through a flat statement, and what they have in common.
-use Rattle.std.specs.Prelude.{List, Option, Some, None}
+use Rattle.std.specs.Prelude.{Option, Some, None}
 use Rattle.lv_source.specs.Effect.{Arm}
 use Rattle.lv_source.specs.Flow.{Flow, still, all_flows, if_flow, case_flow_of, write_flow}
 use Rattle.lv_source.specs.Summary.{Summary, nothing_done, all_summaries, if_summary, case_summary_of, write_summary}

@@ -1,11 +1,10 @@
 -- Statements and parts whose expressions and targets are good.
-use Rattle.std.specs.Prelude.{Bool, true, false, ◌&&◌, List, map, Option, Some, None}
+use Rattle.std.specs.Prelude.{Bool, true, ◌&&◌, List, map, Option, Some, None}
 use Rattle.std.specs.List.{list_all}
 use Rattle.lv_source.specs.Values.{nowhere}
-use Rattle.lv_source.specs.Effect.{Arm, places, bits_in}
+use Rattle.lv_source.specs.Effect.{places, bits_in}
 use Rattle.lv_source.specs.NodeRules.{is_width}
 use Rattle.lv_source.specs.Parts.{is_declared_sort}
-use Rattle.lv_flat.specs.declared.expr.FlatExpr.{FlatExpr}
 use Rattle.lv_flat.specs.declared.stmt.FlatTarget.{FlatTarget}
 use Rattle.lv_flat.specs.declared.stmt.FlatTarget.TheOpen.{FlatTarget-F}
 use Rattle.lv_flat.specs.declared.stmt.FlatStmt.{FlatStmt}

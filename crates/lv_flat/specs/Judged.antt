@@ -1,5 +1,5 @@
 -- What a flat expression is, by the same step as an expression of the source; and whether it is one that is lowered.
-use Rattle.std.specs.Prelude.{ℕ, Bool, true, false, not, ◌&&◌, List, [], ◌∷◌, map, Option, Some, None}
+use Rattle.std.specs.Prelude.{ℕ, Bool, true, false, not, ◌&&◌, List, [], map, Option, Some, None}
 use Rattle.std.specs.List.{list_all}
 use Rattle.lv_bits.specs.Values.{is_unary, keeps_width}
 use Rattle.lv_ast.specs.declared.expr.Literal.{Literal}

@@ -1,0 +1,7 @@
+pub mod ByName
+pub mod Carried
+pub mod Indexed
+pub mod NumberLaws
+pub mod ParameterLaws
+pub mod RangeLaws
+pub mod TurnLaws

@@ -1,0 +1,5 @@
+pub mod Headers
+pub mod Modules
+pub mod Numbers
+pub mod Parameters
+pub mod Ranges

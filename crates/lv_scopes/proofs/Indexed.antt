@@ -1,6 +1,8 @@
 -- A list of constants with the index of a loop behind it.
 use Rattle.std.proofs.Common.{◌≡◌, inl, inr, Bool, true, false, ◌&&◌, List, [], ◌∷◌, ◌++◌, refl, sym, ap, ◌∙◌, subst, Option, Some, None}
 use Rattle.std.specs.Prelude.{reverse, find, bytes_eq, if◌then◌else◌, cond}
+use Rattle.std.specs.Prelude.{Result, OnOk}
+use Rattle.std.proofs.Common.{Ok, Err}
 use mathlib.Core.Path.{fun_ext}
 use Rattle.std.proofs.lemmas.List.{reverse-append}
 use Rattle.lv_ast.specs.declared.expr.Path.{Path}
@@ -10,6 +12,11 @@ use Rattle.lv_source.proofs.Tests.{same_name, name-itself, decide}
 use Rattle.lv_const.specs.declared.constant.Const.{Const}
 use Rattle.lv_const.specs.declared.consts.Entry.{Entry}
 use Rattle.lv_const.specs.Constants.{value_in, value_of_entry, declared_of, constant_of, names_of}
+
+-- what follows from an Ok
+pub with_ok : {A E : Type 0} (r : Result A E) (P Q : Type 0) → (P → Q) → OnOk r P → OnOk r Q
+with_ok (Ok a) P Q f h = f h
+with_ok (Err e) P Q f h = tt
 
 pub turned : (m n : Name) → bytes_eq m n ≡ bytes_eq n m
 turned m n = elim (decide (bytes_eq m n)) [

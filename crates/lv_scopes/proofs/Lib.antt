@@ -1,5 +1,6 @@
 pub mod ByName
 pub mod Carried
+pub mod Carrying
 pub mod Indexed
 pub mod NumberLaws
 pub mod ParameterLaws

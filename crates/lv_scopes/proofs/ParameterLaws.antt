@@ -63,7 +63,7 @@ narrow names r b h =
 
 module _ (here there : Names) (signed : Bool) (value : Expr) (place : ℕ) where
   pub none_right : (c : Const) → IsPlain there signed value c → IsParameterAnswer here there signed None value place (Ok c)
-  none_right c h = record { right = record { is = h.is; allowed = refl; clean = h.clean }; wrong = tt }
+  none_right c h = record { right = record { is = h.is; sound = record { allowed = refl; clean = h.clean } }; wrong = tt }
 
   pub none_wrong : (y : ConstError) → Told (expr_sites true there 0 value) y → IsParameterAnswer here there signed None value place (Err y)
   none_wrong y h = record { right = tt; wrong = record { told = h.found } }
@@ -94,9 +94,11 @@ module _ (here there : Names) (signed : Bool) (value : Expr) (place : ℕ) where
       some_right c k = record {
         right = record {
           is = λ name. k.is name ∙ sym (ap (λ (z : Bounds). constant name.name z signed (assigned nowhere (size z) (meaning there value))) h.bounds);
-          allowed = h.allowed;
-          clean = join_clean (range_sites here (Some r)) (expr_sites true there (size (bounds_of here r)) value) h.clean
-              (subst (λ w. AreClean (expr_sites true there w value)) wide k.clean);
+          sound = record {
+            allowed = h.allowed;
+            clean = join_clean (range_sites here (Some r)) (expr_sites true there (size (bounds_of here r)) value) h.clean
+                (subst (λ w. AreClean (expr_sites true there w value)) wide k.clean);
+          };
         };
         wrong = tt;
       }

@@ -1,5 +1,5 @@
 -- The constant that a parameter becomes.
-use Rattle.std.specs.Prelude.{◌≡◌, ℕ, Bool, true, not, List, ◌++◌, map, Option, None, Result, IfOk, IfErr, Contains, flat_map}
+use Rattle.std.specs.Prelude.{◌≡◌, ℕ, Bool, true, not, List, ◌++◌, map, Option, None, Result, IfOk, IfErr, Contains, flat_map, ⊤}
 use Rattle.lv_ast.specs.declared.expr.Expr.{Expr}
 use Rattle.lv_ast.specs.declared.stmt.Ident.{Ident}
 use Rattle.lv_ast.specs.declared.item.Range.{Range}
@@ -18,6 +18,8 @@ use Rattle.lv_const.specs.Faults.{all_faults}
 use Rattle.lv_const.specs.Constants.{constant_of}
 use Rattle.lv_const.specs.Widths.{span}
 use Rattle.lv_scopes.specs.Numbers.{AreClean}
+use Rattle.lv_scopes.specs.declared.setting.ParameterError.{ParameterError}
+use Rattle.lv_scopes.specs.declared.setting.ParameterError.TheVariants as e
 
 -- ---- what the private functions answer
 
@@ -44,10 +46,14 @@ pub record IsSizedAnswer (there : Names) (signed : Bool) (value : Expr) (first l
 abbrev pub parameter_sites : Names → Names → Option Range → Expr → List Site
 parameter_sites here there range value = range_sites here range ++ expr_sites true there (parameter_width here range) value
 
-pub record IsParameter (here there : Names) (signed : Bool) (range : Option Range) (value : Expr) (c : Const) : Type 0 where
-  pub is : (name : Ident) → constant_of name.name c ≡ parameter here name signed range there value
+-- its range is allowed, and no node of its range or of its value has a fault
+pub record IsSound (here there : Names) (range : Option Range) (value : Expr) : Type 0 where
   pub allowed : is_range here true range ≡ true
   pub clean : AreClean (parameter_sites here there range value)
+
+pub record IsParameter (here there : Names) (signed : Bool) (range : Option Range) (value : Expr) (c : Const) : Type 0 where
+  pub is : (name : Ident) → constant_of name.name c ≡ parameter here name signed range there value
+  pub sound : IsSound here there range value
 
 -- what can be told of it: that its range is none that is allowed, or a fault of a node
 abbrev pub parameter_faults : Names → Names → Option Range → Expr → ℕ → List ConstError
@@ -60,3 +66,7 @@ pub record IsParameterFault (here there : Names) (range : Option Range) (value :
 pub record IsParameterAnswer (here there : Names) (signed : Bool) (range : Option Range) (value : Expr) (place : ℕ) (r : Result Const ConstError) : Type 0 where
   pub right : IfOk r (IsParameter here there signed range value)
   pub wrong : IfErr r (IsParameterFault here there range value place)
+
+abbrev pub IsUnset : Names → Names → Option Range → Expr → ℕ → ParameterError → Type 0
+IsUnset here there range value place (e.Const y) = IsParameterFault here there range value place y
+IsUnset here there range value place e.NoMemory = ⊤

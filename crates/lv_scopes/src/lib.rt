@@ -5,10 +5,12 @@ mod bounds;
 mod modules;
 mod number;
 mod parameter;
+mod setting;
 mod turns;
 
 pub use bounds::range_of;
 pub use modules::{Modules, ModulesError};
 pub use number::{Number, number_of};
 pub use parameter::parameter_of;
+pub use setting::{ParameterError, set_given, set_own};
 pub use turns::{TurnsError, turns_of};

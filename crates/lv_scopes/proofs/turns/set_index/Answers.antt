@@ -1,12 +1,8 @@
-use Rattle.std.proofs.Common.{◌≡◌, ◌++◌, ◌∷◌, [], Some, ap, ◌∙◌, Ok, Err}
-use Rattle.std.specs.Prelude.{Result, OnOk}
+use Rattle.std.proofs.Common.{◌≡◌, ◌++◌, ◌∷◌, [], Some, ap, ◌∙◌}
 use Rattle.lv_source.specs.Effect.{with_index}
 use Rattle.lv_const.specs.Constants.{names_of}
+use Rattle.lv_scopes.proofs.Indexed.{with_ok}
 use Rattle.lv_scopes.proofs.turns.set_index.Goals as goal
-
-with_ok : {A E : Type 0} (r : Result A E) (P Q : Type 0) → (P → Q) → OnOk r P → OnOk r Q
-with_ok (Ok a) P Q f h = f h
-with_ok (Err e) P Q f h = tt
 
 pub returns-clause-named : goal.returns-clause-named
 returns-clause-named c =

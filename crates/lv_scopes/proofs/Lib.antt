@@ -3,6 +3,7 @@ pub mod Carried
 pub mod Carrying
 pub mod Indexed
 pub mod NumberLaws
+pub mod ParamLaws
 pub mod ParameterLaws
 pub mod RangeLaws
 pub mod TurnLaws

@@ -5,6 +5,7 @@ mod bounds;
 mod modules;
 mod number;
 mod parameter;
+mod params;
 mod setting;
 mod turns;
 
@@ -12,5 +13,6 @@ pub use bounds::range_of;
 pub use modules::{Modules, ModulesError};
 pub use number::{Number, number_of};
 pub use parameter::parameter_of;
+pub use params::set_params;
 pub use setting::{ParameterError, set_given, set_own};
 pub use turns::{TurnsError, turns_of};

@@ -1,0 +1,13 @@
+pub mod Bridge
+pub mod Doings
+pub mod Effects
+pub mod ExprFolds
+pub mod FlatDoings
+pub mod GoodParts
+pub mod Judgements
+pub mod ReadAlike
+pub mod Selects
+pub mod SourceDoings
+pub mod StmtFolds
+pub mod Targets
+pub mod Widths

@@ -1,0 +1,9 @@
+pub mod ByName
+pub mod Carried
+pub mod Carrying
+pub mod Indexed
+pub mod NumberLaws
+pub mod ParamLaws
+pub mod ParameterLaws
+pub mod RangeLaws
+pub mod TurnLaws

@@ -1,0 +1,6 @@
+pub mod Headers
+pub mod Modules
+pub mod Numbers
+pub mod Parameters
+pub mod Params
+pub mod Ranges

@@ -1,0 +1,18 @@
+//! What the scopes of a source are made of: the values of bounds and parameters, the turns of loops, and modules by name.
+#![tactic(auto)]
+
+mod bounds;
+mod modules;
+mod number;
+mod parameter;
+mod params;
+mod setting;
+mod turns;
+
+pub use bounds::range_of;
+pub use modules::{Modules, ModulesError};
+pub use number::{Number, number_of};
+pub use parameter::parameter_of;
+pub use params::set_params;
+pub use setting::{ParameterError, set_given, set_own};
+pub use turns::{TurnsError, turns_of};

@@ -1,0 +1,15 @@
+//! Two copies of a graph, and what a query asks of them.
+#![tactic(auto)]
+
+mod goals;
+mod inputs;
+mod moments;
+mod product;
+mod task;
+mod trim;
+mod windows;
+
+pub use lv_unroll::Port;
+pub use product::Product;
+pub use task::{Candidate, Kept, Pair, Query, Task};
+pub use windows::window;

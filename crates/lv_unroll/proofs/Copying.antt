@@ -1,5 +1,6 @@
 -- A copy of a graph, node by node.
-use Rattle.std.proofs.Common.{◌≡◌, ℕ, suc, ◌+◌, ◌<◌, inl, inr, List, [], ◌∷◌, ◌++◌, length, map, take, get_or, slice_index, refl, sym, ◌∙◌, ap, subst, arith, add-one, length-append}
+use Rattle.std.proofs.Common.{◌≡◌, ℕ, suc, ◌+◌, ◌<◌, inl, inr, List, [], ◌∷◌, ◌++◌, length, map, take, get_or, slice_index, refl, sym, ◌∙◌, ap, subst}
+use Rattle.std.proofs.Common.{arith, add-one, length-append}
 use Rattle.std.proofs.Math.ListN.{get_or-append}
 use Rattle.std.proofs.Math.Seq.{get_or-append_seam, take-suc}
 use Rattle.std.proofs.lemmas.Bool.{cases_lt}
@@ -43,7 +44,9 @@ module _ (graph old : Net) (k : ℕ) (table : List ℕ) (h : AreLike old k (widt
     unfolding word_in
     at a lt = get_or-map (word_in old ws) table a _ _ (omega (arith, h.count))
 
-    moved_bits : (n : Node) → IsInner n → IsRight graph k n → node_bits [] ws (values_of old [] ws) (moved_node table n) ≡ node_bits state inputs (map (word_in old ws) table) n
+    moved_bits :
+        (n : Node) → IsInner n → IsRight graph k n → node_bits [] ws (values_of old [] ws) (moved_node table n) ≡ node_bits state inputs
+        (map (word_in old ws) table) n
     moved_bits (Input i) x r = absurd x
     moved_bits (Reg i) x r = absurd x
     moved_bits (Const w) x r = refl
@@ -55,7 +58,12 @@ module _ (graph old : Net) (k : ℕ) (table : List ℕ) (h : AreLike old k (widt
     moved_bits (Ext a width signed) x r = rw (at a r.0) refl
 
 -- what a moved node gives
-pub moved_gives : (graph old new : Net) (k at : ℕ) (state inputs table : List ℕ) (n copy : Node) → copy ≡ moved_node table n → n ≡ (node_at graph.nodes k).node → IsInner n → IsNode graph k (node_at graph.nodes k) → AreLike old k (width_at graph.nodes) table → GivesWord old new at (node_width old copy) (λ ws. node_bits [] ws (values_of old [] ws) copy) → GivesWord old new at (width_at graph.nodes k) (λ ws. node_bits (map (word_in old ws) state) (map (word_in old ws) inputs) (map (word_in old ws) table) (node_at graph.nodes k).node)
+pub moved_gives :
+    (graph old new : Net) (k at : ℕ) (state inputs table : List ℕ) (n copy : Node) → copy ≡ moved_node table n → n ≡ (node_at graph.nodes k).node →
+    IsInner n → IsNode graph k (node_at graph.nodes k) → AreLike old k (width_at graph.nodes) table →
+    GivesWord old new at (node_width old copy) (λ ws. node_bits [] ws (values_of old [] ws) copy) →
+    GivesWord old new at (width_at graph.nodes k) (λ ws. node_bits (map (word_in old ws) state) (map (word_in old ws) inputs) (map (word_in old ws) table)
+    (node_at graph.nodes k).node)
 moved_gives graph old new k at state inputs table n copy e f inner node like g =
     let right : IsRight graph k n = subst (IsRight graph k) (sym f) node.right in
     record {
@@ -65,11 +73,14 @@ moved_gives graph old new k at state inputs table n copy e f inner node like g =
       is = λ ws.
           let st : List Bits = map (word_in old ws) state in
           let ins : List Bits = map (word_in old ws) inputs in
-          g.is ws ∙ (ap (node_bits [] ws (values_of old [] ws)) e ∙ (moved_bits graph old k table like ws st ins n inner right ∙ ap (node_bits st ins (map (word_in old ws) table)) f));
+          g.is ws ∙ (ap (node_bits [] ws (values_of old [] ws)) e ∙ (moved_bits graph old k table like ws st ins n inner right ∙
+          ap (node_bits st ins (map (word_in old ws) table)) f));
     }
 
 -- what holds of each place of a list holds of each place of the longer one
-pub at_end : {A : Type 0} (xs : List A) (x d : A) (P : ℕ → A → Type 0) → ((k : ℕ) → k < length xs → P k (get_or xs k d)) → P (length xs) x → (k : ℕ) → k < length (xs ++ x ∷ []) → P k (get_or (xs ++ x ∷ []) k d)
+pub at_end :
+    {A : Type 0} (xs : List A) (x d : A) (P : ℕ → A → Type 0) → ((k : ℕ) → k < length xs → P k (get_or xs k d)) → P (length xs) x → (k : ℕ) →
+    k < length (xs ++ x ∷ []) → P k (get_or (xs ++ x ∷ []) k d)
 at_end {A} xs x d P old last k h =
     elim (cases_lt k (length xs)) [
       | inl lt ↦ subst (P k) (sym (get_or-append xs (x ∷ []) d k lt)) (old k lt)
@@ -86,24 +97,36 @@ alike_kept old new n w ks s h = record {
   widths = λ i lt. s.widths (slice_index ks i) (h.within i lt) ∙ h.widths i lt;
 }
 
-pub alike_more : (net : Net) (n at : ℕ) (w : ℕ → ℕ) (ks : List ℕ) → AreLike net n w ks → at < length net.nodes → width_at net.nodes at ≡ w n → AreLike net (n + 1) w (ks ++ at ∷ [])
+pub alike_more :
+    (net : Net) (n at : ℕ) (w : ℕ → ℕ) (ks : List ℕ) → AreLike net n w ks → at < length net.nodes → width_at net.nodes at ≡ w n →
+    AreLike net (n + 1) w (ks ++ at ∷ [])
 alike_more net n at w ks h within width = record {
   count = omega (arith, h.count, length-append ks (at ∷ []));
-  within = λ i lt. at_end ks at 0 (λ (i x : ℕ). x < length net.nodes) (λ i lt. h.within i (omega (arith, h.count))) within i (omega (arith, h.count, length-append ks (at ∷ [])));
-  widths = λ i lt. at_end ks at 0 (λ (i x : ℕ). width_at net.nodes x ≡ w i) (λ i lt. h.widths i (omega (arith, h.count))) (width ∙ ap w (sym h.count)) i (omega (arith, h.count, length-append ks (at ∷ [])));
+  within = λ i lt. at_end ks at 0 (λ (i x : ℕ). x < length net.nodes) (λ i lt. h.within i (omega (arith, h.count))) within i
+      (omega (arith, h.count, length-append ks (at ∷ [])));
+  widths = λ i lt. at_end ks at 0 (λ (i x : ℕ). width_at net.nodes x ≡ w i) (λ i lt. h.widths i (omega (arith, h.count))) (width ∙
+      ap w (sym h.count)) i (omega (arith, h.count, length-append ks (at ∷ [])));
 }
 
 -- and keep their words
-pub same_words : (old new : Net) (ws : List Bits) (ks : List ℕ) → Extends old new → ((i : ℕ) → i < length ks → slice_index ks i < length old.nodes) → map (word_in new ws) ks ≡ map (word_in old ws) ks
+pub same_words :
+    (old new : Net) (ws : List Bits) (ks : List ℕ) → Extends old new → ((i : ℕ) → i < length ks → slice_index ks i < length old.nodes) →
+    map (word_in new ws) ks ≡ map (word_in old ws) ks
 same_words old new ws [] s h = refl
 same_words old new ws (k ∷ ks) s h =
     let first : k < length old.nodes = h 0 (omega arith) in
     rw (s.words ws k first, same_words old new ws ks s (λ i lt. h (suc i) (omega arith))) refl
 
-pub alike_words : (old new : Net) (ws : List Bits) (n : ℕ) (w : ℕ → ℕ) (ks : List ℕ) → Extends old new → AreLike old n w ks → map (word_in new ws) ks ≡ map (word_in old ws) ks
+pub alike_words :
+    (old new : Net) (ws : List Bits) (n : ℕ) (w : ℕ → ℕ) (ks : List ℕ) → Extends old new → AreLike old n w ks →
+    map (word_in new ws) ks ≡ map (word_in old ws) ks
 alike_words old new ws n w ks s h = same_words old new ws ks s (λ i lt. h.within i (omega (arith, h.count)))
 
-pub copies_step : (graph old now new : Net) (state inputs : List ℕ) (k at : ℕ) (before table table' : List ℕ) → before ≡ table → table' ≡ table ++ at ∷ [] → k < length graph.nodes → AreStates old graph state → AreInputs old graph inputs → Copies graph old now state inputs k table → GivesWord now new at (width_at graph.nodes k) (λ ws. node_bits (map (word_in now ws) state) (map (word_in now ws) inputs) (map (word_in now ws) before) (node_at graph.nodes k).node) → Copies graph old new state inputs (k + 1) table'
+pub copies_step :
+    (graph old now new : Net) (state inputs : List ℕ) (k at : ℕ) (before table table' : List ℕ) → before ≡ table → table' ≡ table ++ at ∷ [] →
+    k < length graph.nodes → AreStates old graph state → AreInputs old graph inputs → Copies graph old now state inputs k table →
+    GivesWord now new at (width_at graph.nodes k) (λ ws. node_bits (map (word_in now ws) state) (map (word_in now ws) inputs) (map (word_in now ws) before)
+    (node_at graph.nodes k).node) → Copies graph old new state inputs (k + 1) table'
 copies_step graph old now new state inputs k at before table table' p q lt st ins h g =
     subst (Copies graph old new state inputs (k + 1)) (sym q) (record {
       extends = extends_trans old now new h.extends g.extends;

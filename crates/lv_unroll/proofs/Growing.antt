@@ -27,25 +27,33 @@ extends_trans a b c p q = record {
 length_values : (state inputs before : List Bits) (ns : List Typed) → length (values_from state inputs before ns) ≡ length before + length ns
 length_values state inputs before [] = omega arith
 length_values state inputs before (n ∷ ns) =
-    omega (arith, length_values state inputs (before ++ node_bits state inputs before n.node ∷ []) ns, length-append before (node_bits state inputs before n.node ∷ []))
+    omega (
+      arith,
+      length_values state inputs (before ++ node_bits state inputs before n.node ∷ []) ns,
+      length-append before
+          (node_bits state inputs before n.node ∷ []),
+    )
 
 length_of : (net : Net) (ws : List Bits) → length (values_of net [] ws) ≡ length net.nodes
 length_of net ws = omega (arith, length_values [] ws [] net.nodes)
 
 -- what one node more gives
-pub node_gives : (old new : Net) (at : ℕ) (node : Node) → new ≡ with_node old (record { node = node; width = node_width old node }) → at ≡ length old.nodes → GivesWord old new at (node_width old node) (λ ws. node_bits [] ws (values_of old [] ws) node)
+pub node_gives : (old new : Net) (at : ℕ) (node : Node) → new ≡ with_node old (record { node = node; width = node_width old node }) → at ≡ length old.nodes →
+    GivesWord old new at (node_width old node) (λ ws. node_bits [] ws (values_of old [] ws) node)
 unfolding word_in
 node_gives old new at node e h =
     let t : Typed = record { node = node; width = node_width old node } in
     let grown : Net = with_node old t in
-    let all : (ws : List Bits) → values_of grown [] ws ≡ values_of old [] ws ++ node_bits [] ws (values_of old [] ws) node ∷ [] = λ ws. values_from-snoc [] ws [] old.nodes t in
+    let all : (ws : List Bits) → values_of grown [] ws ≡ values_of old [] ws ++ node_bits [] ws (values_of old [] ws) node ∷ [] =
+    λ ws. values_from-snoc [] ws [] old.nodes t in
     let gives : GivesWord old grown (length old.nodes) (node_width old node) (λ ws. node_bits [] ws (values_of old [] ws) node) = record {
       extends = record {
         more = omega (arith, length-append old.nodes (t ∷ []));
         inputs = refl;
         registers = refl;
         widths = λ k lt. ap (λ (x : Typed). x.width) (get_or-append old.nodes (t ∷ []) _ k lt);
-        words = λ ws k lt. ap (λ (vs : List Bits). bits_at vs k) (all ws) ∙ get_or-append (values_of old [] ws) (node_bits [] ws (values_of old [] ws) node ∷ []) _ k (omega (arith, length_of old ws));
+        words = λ ws k lt. ap (λ (vs : List Bits). bits_at vs k) (all ws) ∙
+            get_or-append (values_of old [] ws) (node_bits [] ws (values_of old [] ws) node ∷ []) _ k (omega (arith, length_of old ws));
       };
       within = omega (arith, length-append old.nodes (t ∷ []));
       width = ap (λ (x : Typed). x.width) (get_or-append_seam old.nodes t [] _);
@@ -62,7 +70,9 @@ on_bit true = refl
 on_bit false = refl
 
 -- a node whose number is that of a test
-pub test_of : (old new : Net) (at w : ℕ) (word : List Bits → Bits) (test : List Bits → Bool) → w ≡ 1 → ((ws : List Bits) → (word ws).value ≡ bit (test ws)) → GivesWord old new at w word → GivesTest old new at test
+pub test_of :
+    (old new : Net) (at w : ℕ) (word : List Bits → Bits) (test : List Bits → Bool) → w ≡ 1 → ((ws : List Bits) → (word ws).value ≡ bit (test ws)) →
+    GivesWord old new at w word → GivesTest old new at test
 unfolding is_on number_in
 test_of old new at w word test one e g = record {
   extends = g.extends;

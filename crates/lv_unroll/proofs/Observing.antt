@@ -31,23 +31,32 @@ unfolding rest_of
 rest_is x y xs ys e = ap rest_of e
 
 -- the number of a copy is that of the node in its cycle
-pub number_is : (net graph : Net) (ws : List Bits) (t : Nodes) (c : GraphCycle) → words_in net ws t ≡ cycle_values graph c → (k : ℕ) → k < length t.list.items → numbers_by net ws t.list.items k ≡ node_value graph k c
+pub number_is :
+    (net graph : Net) (ws : List Bits) (t : Nodes) (c : GraphCycle) → words_in net ws t ≡ cycle_values graph c → (k : ℕ) → k < length t.list.items →
+    numbers_by net ws t.list.items k ≡ node_value graph k c
 unfolding number_in
 number_is net graph ws t c e k lt =
     ap (λ (b : Bits). b.value) (sym (get_or-map (word_in net ws) t.list.items k _ _ lt) ∙ ap (λ (vs : List Bits). bits_at vs k) e)
 
-numbers_are : (net graph : Net) (ws : List Bits) (t : Nodes) (c : GraphCycle) → words_in net ws t ≡ cycle_values graph c → (ks : List ℕ) → ((i : ℕ) → i < length ks → slice_index ks i < length t.list.items) → map (numbers_by net ws t.list.items) ks ≡ values (map (node_value graph) ks) c
+numbers_are :
+    (net graph : Net) (ws : List Bits) (t : Nodes) (c : GraphCycle) → words_in net ws t ≡ cycle_values graph c → (ks : List ℕ) → ((i : ℕ) → i < length ks →
+    slice_index ks i < length t.list.items) → map (numbers_by net ws t.list.items) ks ≡ values (map (node_value graph) ks) c
 numbers_are net graph ws t c e [] h = refl
 numbers_are net graph ws t c e (k ∷ ks) h =
     ap (λ (n : ℕ). n ∷ map (numbers_by net ws t.list.items) ks) (number_is net graph ws t c e k (h 0 (omega arith))) ∙
     ap (λ (ns : List ℕ). node_value graph k c ∷ ns) (numbers_are net graph ws t c e ks (λ i lt. h (suc i) (omega arith)))
 
-entry_is : (net graph : Net) (ws : List Bits) (t : Nodes) (c : GraphCycle) (count : ℕ) (p : Port) → words_in net ws t ≡ cycle_values graph c → IsPort (length t.list.items) count p → entry_at (numbers_by net ws t.list.items) p ≡ entry (port_of graph p) c
+entry_is :
+    (net graph : Net) (ws : List Bits) (t : Nodes) (c : GraphCycle) (count : ℕ) (p : Port) → words_in net ws t ≡ cycle_values graph c →
+    IsPort (length t.list.items) count p → entry_at (numbers_by net ws t.list.items) p ≡ entry (port_of graph p) c
 entry_is net graph ws t c count p e h =
     ap (λ (n : ℕ). if nat_eq n 0 then [] else map (numbers_by net ws t.list.items) p.contract.items ∷ []) (number_is net graph ws t c e p.retire h.retire) ∙
-    ap (λ (ns : List ℕ). if nat_eq (node_value graph p.retire c) 0 then [] else ns ∷ []) (numbers_are net graph ws t c e p.contract.items (λ i lt. h.contract i (omega (arith, h.count_is))))
+    ap (λ (ns : List ℕ). if nat_eq (node_value graph p.retire c) 0 then [] else ns ∷ []) (numbers_are net graph ws t c e p.contract.items
+    (λ i lt. h.contract i (omega (arith, h.count_is))))
 
-pub row_is : (net graph : Net) (ws : List Bits) (t : Nodes) (c : GraphCycle) (count : ℕ) (ps : List Port) → words_in net ws t ≡ cycle_values graph c → AllByRecursion (IsPort (length t.list.items) count) ps → row_at (numbers_by net ws t.list.items) ps ≡ row_of (map (port_of graph) ps) c
+pub row_is :
+    (net graph : Net) (ws : List Bits) (t : Nodes) (c : GraphCycle) (count : ℕ) (ps : List Port) → words_in net ws t ≡ cycle_values graph c →
+    AllByRecursion (IsPort (length t.list.items) count) ps → row_at (numbers_by net ws t.list.items) ps ≡ row_of (map (port_of graph) ps) c
 row_is net graph ws t c count [] e h = refl
 row_is net graph ws t c count (p ∷ ps) e h =
     ap (λ (x : List (List ℕ)). x ++ row_at (numbers_by net ws t.list.items) ps) (entry_is net graph ws t c count p e h.0) ∙
@@ -83,4 +92,5 @@ pub unrolled_rows :
     rows_in new ws ports tables ≡
     observations (graph_machine graph o) (unrolled (stepper_of graph) (map (word_in old ws) state) (map (words_in old ws) inputs))
 unrolled_rows graph old new o ports count state inputs tables ws eo hp u =
-    rows_are graph new o ports ws count tables (unrolled (stepper_of graph) (map (word_in old ws) state) (map (words_in old ws) inputs)) eo hp u.copies (u.are ws)
+    rows_are graph new o ports ws count tables (unrolled (stepper_of graph) (map (word_in old ws) state) (map (words_in old ws) inputs)) eo hp u.copies
+    (u.are ws)

@@ -1,11 +1,20 @@
 -- Places that are packed, and the lists that they stand for.
-use Rattle.std.proofs.Common.{◌≡◌, ℕ, ◌+◌, ◌==◌, Bool, true, false, not, ◌&&◌, ◌||◌, if◌then◌else◌, nat_eq, List, [], ◌∷◌, ◌++◌, length, refl, sym, ◌∙◌, ap, subst, arith}
+use Rattle.std.proofs.Common.{◌≡◌, ℕ, ◌+◌, ◌==◌, Bool, true, false, not, ◌&&◌, ◌||◌, if◌then◌else◌, nat_eq, List, [], ◌∷◌, ◌++◌, length, ◌≤◌, take, refl}
+use Rattle.std.proofs.Common.{sym, ◌∙◌}
+use Rattle.std.proofs.Common.{ap, subst, arith}
+use Rattle.std.proofs.Math.Dec.{eqb-suc-suc, eqb-suc-zero, eqb-zero-suc}
 use Rattle.std.proofs.lemmas.Bool.{eq-eqb, eqb-true}
 use Rattle.std.specs.List.{AllByRecursion}
+use Rattle.std.proofs.lemmas.List.{length-map, take_all}
+use Rattle.lv_bits.specs.Words.{Bits}
+use Rattle.lv_bits.specs.Values.{bit}
 use Rattle.lv_model.specs.Machine.{Agree}
-use Rattle.lv_unroll.specs.Slots.{Place, appended, same_values, same_flag, same_places}
-use Rattle.lv_unroll.specs.Entries.{entries_of, IsPacked}
-use Rattle.lv_unroll.proofs.Slotting.{same_flags}
+use Rattle.lv_netlist.specs.Net.{Net}
+use Rattle.lv_unroll.specs.declared.slots.Slot.{Slot}
+use Rattle.lv_unroll.specs.Wires.{GivesTest}
+use Rattle.lv_unroll.specs.Slots.{Place, place_in, places_in, appended, same_values, same_flag, same_places}
+use Rattle.lv_unroll.specs.Entries.{entries_of, equally_many, IsPacked, ArePacked}
+use Rattle.lv_unroll.proofs.Slotting.{same_flags, flags_so_far}
 
 no_true : (b : Bool) → b ≡ false → b ≡ true → ⊥
 no_true true e h = cc
@@ -47,7 +56,10 @@ none_behind : (on : Bool) (vs : List ℕ) (ps : List Place) → IsPacked false p
 none_behind on vs [] h = refl
 none_behind on vs (p ∷ ps) h = off_if p.there on ((if p.there then p.values else vs) ∷ entries_of (appended p.there on vs ps)) h.0
 
-entries_step : (t on : Bool) (xs vs : List ℕ) (ps : List Place) → IsPacked t ps → (IsPacked true ps → entries_of (appended true on vs ps) ≡ entries_of ps ++ one_if on vs) → (if t || (true && on) then (if t then xs else vs) ∷ entries_of (appended t on vs ps) else []) ≡ (if t then xs ∷ entries_of ps else []) ++ one_if on vs
+entries_step :
+    (t on : Bool) (xs vs : List ℕ) (ps : List Place) → IsPacked t ps → (IsPacked true ps →
+    entries_of (appended true on vs ps) ≡ entries_of ps ++ one_if on vs) →
+    (if t || (true && on) then (if t then xs else vs) ∷ entries_of (appended t on vs ps) else []) ≡ (if t then xs ∷ entries_of ps else []) ++ one_if on vs
 entries_step true on xs vs ps h ih = ap (λ (r : List (List ℕ)). xs ∷ r) (ih h)
 entries_step false on xs vs ps h ih = cut on vs (entries_of (appended false on vs ps)) (λ t. none_behind on vs ps h)
 
@@ -97,7 +109,8 @@ left_off false u s r h g = g refl
 free_left : (ps qs : List Place) → IsPacked false ps → same_places ps qs ≡ true
 free_left [] qs h = refl
 free_left (p ∷ ps) [] h = refl
-free_left (p ∷ ps) (q ∷ qs) h = left_off p.there q.there (same_values p.values q.values) (same_places ps qs) h.0 (λ e. free_left ps qs (subst (λ (t : Bool). IsPacked t ps) e h.1))
+free_left (p ∷ ps) (q ∷ qs) h = left_off p.there q.there (same_values p.values q.values) (same_places ps qs) h.0 (λ e. free_left ps qs
+    (subst (λ (t : Bool). IsPacked t ps) e h.1))
 
 right_off : (t u s r : Bool) → (u ≡ true → false ≡ true) → (u ≡ false → r ≡ true) → ((not (t && u) || s) && r) ≡ true
 right_off t true s r h g = absurd (no_true false refl (h refl))
@@ -107,9 +120,13 @@ right_off false false s r h g = g refl
 free_right : (ps qs : List Place) → IsPacked false qs → same_places ps qs ≡ true
 free_right [] qs h = refl
 free_right (p ∷ ps) [] h = refl
-free_right (p ∷ ps) (q ∷ qs) h = right_off p.there q.there (same_values p.values q.values) (same_places ps qs) h.0 (λ e. free_right ps qs (subst (λ (t : Bool). IsPacked t qs) e h.1))
+free_right (p ∷ ps) (q ∷ qs) h = right_off p.there q.there (same_values p.values q.values) (same_places ps qs) h.0 (λ e. free_right ps qs
+    (subst (λ (t : Bool). IsPacked t qs) e h.1))
 
-agree_one : (n : ℕ) (t u : Bool) (xs ys : List ℕ) (ps qs : List Place) → length xs ≡ n → length ys ≡ n → IsPacked t ps → IsPacked u qs → ((not (t && u) || same_values xs ys) && same_places ps qs) ≡ true → (IsPacked true ps → IsPacked true qs → same_places ps qs ≡ true → Agree (entries_of ps) (entries_of qs)) → Agree (if t then xs ∷ entries_of ps else []) (if u then ys ∷ entries_of qs else [])
+agree_one :
+    (n : ℕ) (t u : Bool) (xs ys : List ℕ) (ps qs : List Place) → length xs ≡ n → length ys ≡ n → IsPacked t ps → IsPacked u qs →
+    ((not (t && u) || same_values xs ys) && same_places ps qs) ≡ true → (IsPacked true ps → IsPacked true qs → same_places ps qs ≡ true →
+    Agree (entries_of ps) (entries_of qs)) → Agree (if t then xs ∷ entries_of ps else []) (if u then ys ∷ entries_of qs else [])
 agree_one n false u xs ys ps qs lx ly hp hq e ih = tt
 agree_one n true false xs ys ps qs lx ly hp hq e ih = tt
 agree_one n true true xs ys ps qs lx ly hp hq e ih = (
@@ -117,19 +134,25 @@ agree_one n true true xs ys ps qs lx ly hp hq e ih = (
   ih hp hq (and_second (same_values xs ys) (same_places ps qs) e),
 )
 
-pub same_agree : (n : ℕ) (ps qs : List Place) → IsPacked true ps → IsPacked true qs → HaveValues n ps → HaveValues n qs → length ps ≡ length qs → same_places ps qs ≡ true → Agree (entries_of ps) (entries_of qs)
+pub same_agree :
+    (n : ℕ) (ps qs : List Place) → IsPacked true ps → IsPacked true qs → HaveValues n ps → HaveValues n qs → length ps ≡ length qs →
+    same_places ps qs ≡ true → Agree (entries_of ps) (entries_of qs)
 same_agree n [] qs hp hq vp vq len e = tt
 same_agree n (p ∷ ps) [] hp hq vp vq len e = absurd (omega arith)
 same_agree n (p ∷ ps) (q ∷ qs) hp hq vp vq len e =
     agree_one n p.there q.there p.values q.values ps qs vp.0 vq.0 hp.1 hq.1 e (λ a b. same_agree n ps qs a b vp.1 vq.1 (omega arith))
 
-same_one : (t u : Bool) (xs ys : List ℕ) (ps qs : List Place) → IsPacked t ps → IsPacked u qs → (IsPacked true ps → IsPacked true qs → Agree (entries_of ps) (entries_of qs) → same_places ps qs ≡ true) → Agree (if t then xs ∷ entries_of ps else []) (if u then ys ∷ entries_of qs else []) → ((not (t && u) || same_values xs ys) && same_places ps qs) ≡ true
+same_one :
+    (t u : Bool) (xs ys : List ℕ) (ps qs : List Place) → IsPacked t ps → IsPacked u qs → (IsPacked true ps → IsPacked true qs →
+    Agree (entries_of ps) (entries_of qs) → same_places ps qs ≡ true) → Agree (if t then xs ∷ entries_of ps else []) (if u then ys ∷ entries_of qs else []) →
+    ((not (t && u) || same_values xs ys) && same_places ps qs) ≡ true
 same_one false u xs ys ps qs hp hq ih e = free_left ps qs hp
 same_one true false xs ys ps qs hp hq ih e = free_right ps qs hq
 same_one true true xs ys ps qs hp hq ih e =
     and_both (same_values xs ys) (same_places ps qs) (subst (λ (zs : List ℕ). same_values xs zs ≡ true) e.0 (values_are_same xs)) (ih hp hq e.1)
 
-pub agree_same : (ps qs : List Place) → IsPacked true ps → IsPacked true qs → length ps ≡ length qs → Agree (entries_of ps) (entries_of qs) → same_places ps qs ≡ true
+pub agree_same :
+    (ps qs : List Place) → IsPacked true ps → IsPacked true qs → length ps ≡ length qs → Agree (entries_of ps) (entries_of qs) → same_places ps qs ≡ true
 agree_same [] qs hp hq len e = refl
 agree_same (p ∷ ps) [] hp hq len e = absurd (omega arith)
 agree_same (p ∷ ps) (q ∷ qs) hp hq len e = same_one p.there q.there p.values q.values ps qs hp.1 hq.1 (λ a b. agree_same ps qs a b (omega arith)) e
@@ -151,9 +174,9 @@ flags_one :
     (t u : Bool) (xs ys : List ℕ) (ps qs : List Place) → IsPacked t ps → IsPacked u qs →
     (IsPacked true ps → IsPacked true qs → same_flags ps qs ≡ nat_eq (length (entries_of ps)) (length (entries_of qs))) →
     (same_flag t u && same_flags ps qs) ≡ nat_eq (length (if t then xs ∷ entries_of ps else [])) (length (if u then ys ∷ entries_of qs else []))
-flags_one true true xs ys ps qs hp hq ih = ih hp hq
-flags_one true false xs ys ps qs hp hq ih = refl
-flags_one false true xs ys ps qs hp hq ih = refl
+flags_one true true xs ys ps qs hp hq ih = ih hp hq ∙ sym (eqb-suc-suc (length (entries_of ps)) (length (entries_of qs)))
+flags_one true false xs ys ps qs hp hq ih = sym (eqb-suc-zero (length (entries_of ps)))
+flags_one false true xs ys ps qs hp hq ih = sym (eqb-zero-suc (length (entries_of qs)))
 flags_one false false xs ys ps qs hp hq ih = free_flags ps qs hp hq
 
 pub flags_count :
@@ -163,3 +186,23 @@ flags_count [] [] hp hq len = refl
 flags_count [] (q ∷ qs) hp hq len = absurd (omega arith)
 flags_count (p ∷ ps) [] hp hq len = absurd (omega arith)
 flags_count (p ∷ ps) (q ∷ qs) hp hq len = flags_one p.there q.there p.values q.values ps qs hp.1 hq.1 (λ a b. flags_count ps qs a b (omega arith))
+
+pub flags_done :
+    (old new : Net) (k at : ℕ) (xs ys : List Slot) → length xs ≤ k → length xs ≡ length ys → ArePacked old xs → ArePacked old ys →
+    GivesTest old new at (flags_so_far old xs ys k) → GivesTest old new at (equally_many old xs ys)
+flags_done old new k at xs ys le len hx hy g =
+    let is : (ws : List Bits) → flags_so_far old xs ys k ws ≡ equally_many old xs ys ws = λ ws.
+    ap (λ (ss : List Slot). same_flags (places_in old ws ss) (places_in old ws (take k ys))) (take_all k xs le) ∙
+    (ap (λ (ss : List Slot). same_flags (places_in old ws xs) (places_in old ws ss)) (take_all k ys (omega arith)) ∙
+    flags_count (places_in old ws xs) (places_in old ws ys) (hx ws) (hy ws) (omega (
+      arith,
+      length-map xs (place_in old ws),
+      length-map ys (place_in old ws),
+    ))) in
+    record {
+      extends = g.extends;
+      within = g.within;
+      width = g.width;
+      is = λ ws. g.is ws ∙ ap bit (is ws);
+      on = λ ws. g.on ws ∙ is ws;
+    }

@@ -36,4 +36,6 @@ AreInputs net graph nodes = AreLike net (length graph.inputs) (input_width graph
 pub record Copies (graph old new : Net) (state inputs : List ℕ) (k : ℕ) (table : List ℕ) : Type 0 where
   pub extends : Extends old new
   pub alike : AreLike new k (width_at graph.nodes) table
-  pub is : (words : List Bits) → map (word_in new words) table ≡ values_from (map (word_in old words) state) (map (word_in old words) inputs) [] (take k graph.nodes)
+  pub is :
+      (words : List Bits) → map (word_in new words) table ≡ values_from (map (word_in old words) state) (map (word_in old words) inputs) []
+      (take k graph.nodes)

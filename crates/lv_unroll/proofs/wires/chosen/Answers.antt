@@ -13,5 +13,6 @@ returns c = record {
   extends = c.in_ok-at.ensures.extends;
   within = c.in_ok-at.ensures.within;
   width = c.in_ok-at.ensures.width;
-  is = λ ws. ap (λ (b : Bits). b.value) (c.in_ok-at.ensures.is ws) ∙ taken (number_in c.args.b.now ws c.args.c == 0) (word_in c.args.b.now ws c.args.x) (word_in c.args.b.now ws c.args.y);
+  is = λ ws. ap (λ (b : Bits). b.value) (c.in_ok-at.ensures.is ws) ∙ taken (number_in c.args.b.now ws c.args.c == 0) (word_in c.args.b.now ws c.args.x)
+      (word_in c.args.b.now ws c.args.y);
 }

@@ -11,4 +11,5 @@ twice false = refl
 
 pub returns : goal.returns
 unfolding is_on number_in word_in
-returns c = test_of c.args.b.now c.add.new.b c.in_ok-at.at 1 _ (λ (ws : List Bits). not (is_on c.args.b.now ws c.args.x)) refl (λ ws. twice (number_in c.args.b.now ws c.args.x == 0)) c.in_ok-at.ensures
+returns c = test_of c.args.b.now c.add.new.b c.in_ok-at.at 1 _ (λ (ws : List Bits). not (is_on c.args.b.now ws c.args.x)) refl
+    (λ ws. twice (number_in c.args.b.now ws c.args.x == 0)) c.in_ok-at.ensures

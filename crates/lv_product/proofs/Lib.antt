@@ -4,5 +4,6 @@ pub mod Reaching
 pub mod Carrying
 pub mod Opened
 pub mod Parts
-pub mod Concluding
 pub mod Trimmed
+pub mod Shared
+pub mod Concluding

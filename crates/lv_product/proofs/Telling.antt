@@ -84,6 +84,21 @@ candidate_reads graph (When guard e) h = ((h 0 0 (omega arith)).0, (h 1 0 (omega
 candidate_reads graph (Each p) h = (h 0 0 (omega arith)).0
 candidate_reads graph Aligned h = tt
 
+pub state_nodes : (graph : Net) (xs ys : List ℕ) → ys ≡ xs → All (IsStateNode graph) xs → AreNodes graph ys
+state_nodes graph xs ys e h = subst (AreNodes graph) (sym e) (λ i lt. (h i 0 lt).0)
+
+pub input_nodes : (graph : Net) (xs ys : List ℕ) → ys ≡ xs → All (IsInputNode graph) xs → AreNodes graph ys
+input_nodes graph xs ys e h = subst (AreNodes graph) (sym e) (λ i lt. (h i 0 lt).0)
+
+pub seen_nodes : (graph : Net) (xs ys : List ℕ) → ys ≡ xs → All (λ k. k < length graph.nodes) xs → AreNodes graph ys
+seen_nodes graph xs ys e h = subst (AreNodes graph) (sym e) (λ i lt. h i 0 lt)
+
+pub candidates_read : (graph : Net) (xs ys : List Candidate) → ys ≡ xs → All (IsCandidate graph) xs → All (ReadsNodes graph) ys
+candidates_read graph xs ys e h = subst (All (ReadsNodes graph)) (sym e) (λ i d lt. candidate_reads graph (get_or xs i d) (h i d lt))
+
+pub numbers_within : (cs cs' : List Candidate) (s s' : List ℕ) → cs' ≡ cs → s' ≡ s → All (λ k. k < length cs) s → All (λ k. k < length cs') s'
+numbers_within cs cs' s s' e e' h = subst (λ (xs : List Candidate). All (λ k. k < length xs) s') (sym e) (subst (All (λ k. k < length cs)) (sym e') h)
+
 -- ---- copies, cycle by cycle
 
 pub copies_kept : (old new graph : Net) (ts : List Nodes) → Extends old new → AllByRecursion (IsCopy old graph) ts → AllByRecursion (IsCopy new graph) ts

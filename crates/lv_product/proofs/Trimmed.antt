@@ -42,27 +42,38 @@ in_parts : (state inputs before : List Bits) (xs ys : List Typed) → values_fro
 in_parts state inputs before [] ys = refl
 in_parts state inputs before (x ∷ xs) ys = in_parts state inputs (before ++ node_bits state inputs before x.node ∷ []) xs ys
 
-abbrev before : Net → List Bits → ℕ → List Bits
-before net ws k = values_from [] ws [] (take k net.nodes)
+abbrev earlier : Net → List Bits → List Bits → ℕ → List Bits
+earlier net state ws k = values_from state ws [] (take k net.nodes)
 
-length_before : (net : Net) (ws : List Bits) (k : ℕ) → k ≤ length net.nodes → length (before net ws k) ≡ k
-length_before net ws k le = omega (arith, long [] ws [] (take k net.nodes), length-take k net.nodes)
+length_earlier : (net : Net) (state ws : List Bits) (k : ℕ) → k ≤ length net.nodes → length (earlier net state ws k) ≡ k
+length_earlier net state ws k le = omega (arith, long state ws [] (take k net.nodes), length-take k net.nodes)
+
+value_before : (net : Net) (state ws : List Bits) (a k : ℕ) → a < k → k ≤ length net.nodes → bits_at (values_of net state ws) a ≡ bits_at (earlier net state ws k) a
+value_before net state ws a k lt le =
+    ap (λ (ns : List Typed). bits_at (values_from state ws [] ns) a) (sym (take-append-drop k net.nodes)) ∙
+    (ap (λ (vs : List Bits). bits_at vs a) (in_parts state ws [] (take k net.nodes) (drop k net.nodes)) ∙
+    prefix_kept state ws (earlier net state ws k) (drop k net.nodes) a (omega (arith, length_earlier net state ws k le)))
+
+pub value_of : (net : Net) (state ws : List Bits) (k : ℕ) → k < length net.nodes → bits_at (values_of net state ws) k ≡ node_bits state ws (earlier net state ws k) (node_at net.nodes k).node
+value_of net state ws k lt =
+    let n : Typed = node_at net.nodes k in
+    let x : Bits = node_bits state ws (earlier net state ws k) n.node in
+    let all : earlier net state ws (suc k) ≡ earlier net state ws k ++ x ∷ [] =
+    ap (values_from state ws []) (take-suc net.nodes k _ lt) ∙ values_from-snoc state ws [] (take k net.nodes) n in
+    value_before net state ws k (suc k) (omega arith) (omega arith) ∙
+    (ap (λ (vs : List Bits). bits_at vs k) all ∙
+    (ap (bits_at (earlier net state ws k ++ x ∷ [])) (sym (length_earlier net state ws k (omega arith))) ∙ get_or-append_seam (earlier net state ws k) x [] no_bits))
+
+abbrev before : Net → List Bits → ℕ → List Bits
+before net ws k = earlier net [] ws k
 
 pub word_before : (net : Net) (ws : List Bits) (a k : ℕ) → a < k → k ≤ length net.nodes → word_in net ws a ≡ bits_at (before net ws k) a
 unfolding word_in
-word_before net ws a k lt le =
-    ap (λ (ns : List Typed). bits_at (values_from [] ws [] ns) a) (sym (take-append-drop k net.nodes)) ∙
-    (ap (λ (vs : List Bits). bits_at vs a) (in_parts [] ws [] (take k net.nodes) (drop k net.nodes)) ∙
-    prefix_kept [] ws (before net ws k) (drop k net.nodes) a (omega (arith, length_before net ws k le)))
+word_before net ws a k lt le = value_before net [] ws a k lt le
 
 pub word_of : (net : Net) (ws : List Bits) (k : ℕ) → k < length net.nodes → word_in net ws k ≡ node_bits [] ws (before net ws k) (node_at net.nodes k).node
-word_of net ws k lt =
-    let n : Typed = node_at net.nodes k in
-    let all : before net ws (suc k) ≡ before net ws k ++ node_bits [] ws (before net ws k) n.node ∷ [] =
-    ap (values_from [] ws []) (take-suc net.nodes k _ lt) ∙ values_from-snoc [] ws [] (take k net.nodes) n in
-    word_before net ws k (suc k) (omega arith) (omega arith) ∙
-    (ap (λ (vs : List Bits). bits_at vs k) all ∙
-    (ap (bits_at (before net ws k ++ node_bits [] ws (before net ws k) n.node ∷ [])) (sym (length_before net ws k (omega arith))) ∙ get_or-append_seam (before net ws k) (node_bits [] ws (before net ws k) n.node) [] no_bits))
+unfolding word_in
+word_of net ws k lt = value_of net [] ws k lt
 
 -- ---- a node with its operands by the table
 

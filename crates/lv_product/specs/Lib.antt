@@ -5,3 +5,4 @@ pub mod Meets
 pub mod Opening
 pub mod Pairs
 pub mod Trimming
+pub mod Sharing

@@ -5,6 +5,7 @@ mod goals;
 mod inputs;
 mod moments;
 mod product;
+mod sharing;
 mod task;
 mod trim;
 mod windows;

@@ -1,5 +1,5 @@
 ghost use Rattle.std.specs.Prelude.{◌≡◌, ◌≢◌, ℕ, ◌<◌, [], length, IfOk};
-ghost use Rattle.lv_netlist.specs.Net.{IsRight, width_at};
+ghost use Rattle.lv_netlist.specs.Net.{IsRight, IsNode, node_at};
 ghost use Rattle.lv_product.specs.Trimming.{is_there, is_ready, no_copy, IsCopyOf, GivesCopy, IsTrimmed, AreCopies, AreOpen};
 
 use crate::inputs::{open, port_widths};
@@ -74,18 +74,37 @@ fn copied(b: &mut Builder, whole: &Graph, k: u64, marked: bool, table: &[u64]) -
     requires table { AreCopies whole.now b.old k table.now }
     ensures { IfOk result (GivesCopy whole.now b.old b.new k) }
 {
-    match whole.node(k) {
+    let node = whole.node(k);
+    match node {
         Node::Input(i) => Ok(i),
-        node => {
-            if marked && is_ready(whole, node, table) {
-                let copy = moved(whole, node, table);
-                let at = add(b, copy)?;
-                Ok(at)
-            } else {
-                Ok(NO_COPY)
-            }
-        }
+        _ => copied_inner(b, whole, k, node, marked, table),
     }
+}
+
+// A copy of node k, which is this one and no input, where it is marked and the table has its operands.
+fn copied_inner(
+    b: &mut Builder,
+    whole: &Graph,
+    k: u64,
+    node: Node,
+    marked: bool,
+    table: &[u64],
+) -> Result<u64, NoMemory>
+    requires within { k < length whole.now.nodes }
+    requires node { node ≡ (node_at whole.now.nodes k).node }
+    requires typed { IsNode whole.now k (node_at whole.now.nodes k) }
+    requires table { AreCopies whole.now b.old k table.now }
+    ensures { IfOk result (GivesCopy whole.now b.old b.new k) }
+{
+    if !marked {
+        return Ok(NO_COPY);
+    }
+    if !is_ready(whole, node, table) {
+        return Ok(NO_COPY);
+    }
+    let copy = moved(whole, node, table);
+    let at = add(b, copy)?;
+    Ok(at)
 }
 
 // The copies of the marked nodes, and that of the goal.

@@ -6,11 +6,12 @@ ghost use Rattle.lv_product.specs.Queries.{FitsKept, asked, observers_of};
 use crate::goals::goal;
 use crate::inputs::{cycle_nodes, open, product_widths, range};
 use crate::product::Product;
+use crate::sharing::first_nodes;
 use crate::task::{Kept, Query, Task};
 use crate::trim::trim;
 use lv_bits::NoMemory;
 use lv_netlist::Graph;
-use lv_unroll::unroll;
+use lv_unroll::{both, unroll};
 use std::alloc::Global;
 
 fn cycles_of(query: Query, lookahead: u32) -> u64
@@ -39,8 +40,17 @@ fn whole(alloc: Global, task: &Task, kept: &Kept, query: Query, cycles: u64) -> 
     let right = range(alloc, registers, registers)?;
     let inputs = cycle_nodes(alloc, registers + registers, graph.inputs(), cycles)?;
     let aligned = many - 1;
+    let (first, alike) = first_nodes(
+        alloc,
+        &mut b,
+        task,
+        kept,
+        query,
+        left.as_slice(),
+        right.as_slice(),
+    )?;
     let ls = unroll(alloc, &mut b, graph, left.as_slice(), inputs.as_slice())?;
-    let rs = unroll(alloc, &mut b, graph, right.as_slice(), inputs.as_slice())?;
+    let rs = unroll(alloc, &mut b, graph, first.as_slice(), inputs.as_slice())?;
     let at = goal(
         alloc,
         &mut b,
@@ -51,9 +61,10 @@ fn whole(alloc: Global, task: &Task, kept: &Kept, query: Query, cycles: u64) -> 
         rs.as_slice(),
         aligned,
     )?;
+    let both = both(&mut b, alike, at)?;
     graph.runs();
     let whole = b.finish();
-    Ok((whole, at))
+    Ok((whole, both))
 }
 
 /// The product of a task for a query: both copies over the same inputs, and the query's goal for this list.

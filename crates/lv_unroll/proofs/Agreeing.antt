@@ -195,10 +195,12 @@ packed_kept old new n ss ss' e s h p = λ ws. subst (IsPacked true) (sym (ap (pl
 
 pub matching_gives :
     (old b1 b2 new : Net) (n many many' at : ℕ) (ports : List Port) (left right : List ℕ) (none none' ls ls' rs rs' : List Slot) →
-    none ≡ [] → none' ≡ [] → ls' ≡ ls → rs' ≡ rs → AllByRecursion (IsPort (length right) n) ports → IsTable old right →
+    none ≡ [] → none' ≡ [] → ls' ≡ ls → rs' ≡ rs → length left ≡ length right →
+    AllByRecursion (IsPort (length left) n) ports → IsTable old right →
     GivesEntries old b1 n many ls (entries_with old none ports left) → GivesEntries b1 b2 n many' rs (entries_with b1 none' ports right) →
     GivesTest b2 new at (equally_many b2 ls' rs') → GivesTest old new at (rows_match old ports left right)
-matching_gives old b1 b2 new n many many' at ports left right none none' ls ls' rs rs' e e' el er hp ht l r g =
+matching_gives old b1 b2 new n many many' at ports left right none none' ls ls' rs rs' e e' el er same hp ht l r g =
+    let mine : AllByRecursion (IsPort (length right) n) ports = subst (λ (m : ℕ). AllByRecursion (IsPort m n) ports) same hp in
     let lefts : (ws : List Bits) → entries_of (places_in b2 ws ls') ≡ row_at (numbers_by old ws left) ports = λ ws.
     ap (λ (ss : List Slot). entries_of (places_in b2 ws ss)) el ∙
     (ap entries_of (places_kept b1 b2 ws n ls r.extends l.slots_are) ∙
@@ -206,7 +208,7 @@ matching_gives old b1 b2 new n many many' at ports left right none none' ls ls' 
     let rights : (ws : List Bits) → entries_of (places_in b2 ws rs') ≡ row_at (numbers_by old ws right) ports = λ ws.
     ap (λ (ss : List Slot). entries_of (places_in b2 ws ss)) er ∙
     (r.are ws ∙
-    (ap (λ (ss : List Slot). entries_of (places_in b1 ws ss) ++ row_at (numbers_by b1 ws right) ports) e' ∙ row_kept old b1 ws right ports l.extends ht n hp))
+    (ap (λ (ss : List Slot). entries_of (places_in b1 ws ss) ++ row_at (numbers_by b1 ws right) ports) e' ∙ row_kept old b1 ws right ports l.extends ht n mine))
     in
     let is : (ws : List Bits) → equally_many b2 ls' rs' ws ≡ rows_match old ports left right ws = λ ws.
     ap (λ (es : List (List ℕ)). nat_eq (length es) (length (entries_of (places_in b2 ws rs')))) (lefts ws) ∙

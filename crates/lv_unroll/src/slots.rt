@@ -144,13 +144,13 @@ pub fn agree(b: &mut Builder, left: &[Slot], right: &[Slot]) -> Result<u64, NoMe
 }
 
 // A node that is 1 where both entries are there, or neither is.
-fn same_on(b: &mut Builder, x: u64, y: u64) -> Result<u64, NoMemory>
-    requires left { x < length b.old.nodes }
-    requires right { y < length b.old.nodes }
-    ensures { IfOk result (λ at. GivesTest b.old b.new at (λ ws. same_flag (is_on b.old ws x) (is_on b.old ws y))) }
+fn same_on(b: &mut Builder, left: &Slot, right: &Slot) -> Result<u64, NoMemory>
+    requires left { left.now.on < length b.old.nodes }
+    requires right { right.now.on < length b.old.nodes }
+    ensures { IfOk result (λ at. GivesTest b.old b.new at (λ ws. same_flag (is_on b.old ws left.now.on) (is_on b.old ws right.now.on))) }
 {
-    let free = negated(b, x)?;
-    let other = negated(b, y)?;
+    let free = negated(b, left.on)?;
+    let other = negated(b, right.on)?;
     let at = equal(b, free, other)?;
     Ok(at)
 }
@@ -167,7 +167,7 @@ pub fn same_count(b: &mut Builder, left: &[Slot], right: &[Slot]) -> Result<u64,
 {
     let mut all = always(b)?;
     for k in 0..left.len() {
-        let one = same_on(b, left[k].on, right[k].on)?;
+        let one = same_on(b, &left[k], &right[k])?;
         all = both(b, all, one)?;
     }
     Ok(all)

@@ -22,8 +22,8 @@ returns c =
     c.args.right.now c.loop-k.ls.items c.as_slice-2.result.now c.loop-k.rs.items c.as_slice-3.result.now
     (omega arith) (omega arith) c.as_slice-2.ensures.value c.as_slice-3.ensures.value c.loop-k.invariant c.in_ok-at.ensures
 
-pub agree-requires-beside : goal.agree-requires-beside
-agree-requires-beside c =
+pub agree-requires-clause-beside : goal.agree-requires-clause-beside
+agree-requires-clause-beside c =
     both_beside c.args.b.now c.loop-k.b (entry_length c.args.ports.now) c.loop-k.k c.args.ports.now c.args.left.now c.args.right.now
     c.loop-k.ls.items c.as_slice-2.result.now c.loop-k.rs.items c.as_slice-3.result.now c.as_slice-2.ensures.value c.as_slice-3.ensures.value
     c.loop-k.invariant

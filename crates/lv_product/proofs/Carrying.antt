@@ -36,14 +36,14 @@ some_fails m (k ∷ s) l r a decided none =
       | inl h ↦
           let rest : SomeFails m s l r a = some_fails m s l r a decided (λ all. none (All-cons (λ j. m.Holds j l r a) k s h all)) in
           (rest.0, (suc rest.1.0, omega (arith, rest.1.1), rest.1.2), rest.2)
-      | inr no ↦ (k, (0, omega arith, refl), no)
+      | inr fails ↦ (k, (0, omega arith, refl), fails)
     ]
 
 pub not_all : {V : Type 0} (m : Machine V) (s : List ℕ) (l r : V) (a : Bool) → SomeFails m s l r a → AllHold m s l r a → ⊥
 not_all m s l r a (k, inside, fails) all = fails (All-contains (λ j. m.Holds j l r a) s k all inside)
 
 module _ (task : Task) where
-  abbrev of_cycle : GraphCycle → List Bits
+  abbrev pub of_cycle : GraphCycle → List Bits
   of_cycle c = values_of task.graph c.state c.input
 
   values_is : (ks : List ℕ) (c : GraphCycle) → values (map (node_value task.graph) ks) c ≡ values (map value_at ks) (of_cycle c)

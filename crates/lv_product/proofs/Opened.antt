@@ -1,8 +1,9 @@
 -- Inputs that are opened one after another, and what their words are.
-use Rattle.std.proofs.Common.{◌≡◌, ◌≢◌, ℕ, zero, suc, ◌+◌, ◌*◌, ◌^◌, ◌<◌, ◌≤◌, List, [], ◌∷◌, ◌++◌, length, map, take, drop, get_or, slice_index, refl, sym, ◌∙◌, ap, subst, arith, add-one, add-zero, append_assoc, length-append, length-take, drop-cons, drop-drop, suc-mul, zero-mul}
+use Rattle.std.proofs.Common.{◌≡◌, ◌≢◌, ℕ, zero, suc, ◌+◌, ◌*◌, ◌^◌, ◌<◌, ◌≤◌, List, [], ◌∷◌, ◌++◌, length, map, take, drop, get_or, slice_index, refl, sym, ◌∙◌, ap, subst, arith, add-one, add-zero, append_assoc, length-append, length-take, length-drop, drop-cons, drop-drop, suc-mul, zero-mul, All}
 use Rattle.std.proofs.Math.ListN.{get_or-append}
 use Rattle.std.proofs.Math.Seq.{get_or-append_seam}
 use Rattle.std.proofs.lemmas.List.{take_more, map-append, length-map, get_or-map, get_or-append-add, append-nil}
+use Rattle.std.proofs.lemmas.List.Elements.{All-map, All-from_get_or, All-append, All-cons, All-nil}
 use Rattle.std.proofs.lemmas.List.FromFn.{length-range_with_len, get_or-range_with_len}
 use Rattle.std.specs.List.{range_with_len, AllByRecursion}
 use Rattle.std.specs.Int.{w64, to_le_bytes, from_le_bytes}
@@ -104,6 +105,26 @@ pub repeated_step : (n : ℕ) (rs xs all all' : List ℕ) → all' ≡ all ++ xs
 repeated_step n rs xs all all' e h =
     rw add-one (e ∙ (ap (λ (l : List ℕ). l ++ xs) h ∙ (append_assoc rs (repeated n xs) xs ∙ ap (λ (l : List ℕ). rs ++ l) (repeated_more n xs))))
 
+all_repeated : (P : ℕ → Type 0) (n : ℕ) (xs : List ℕ) → All P xs → All P (repeated n xs)
+all_repeated P zero xs h = λ i d lt. absurd (omega arith)
+all_repeated P (suc n) xs h = All-append P xs (repeated n xs) h (all_repeated P n xs h)
+
+pub widths_right : (graph : Net) (n : ℕ) (all : List ℕ) → IsNet graph → all ≡ product_widths graph n → AreWidths all
+widths_right graph n all net e =
+    let rs : All IsWidth (register_widths graph) =
+    All-map IsWidth (λ (r : List ℕ × Register). r.1.width) graph.registers (All-from_get_or (λ (r : List ℕ × Register). IsWidth r.1.width) graph.registers _ (λ i lt. (net.registers i lt).width)) in
+    let ps : All IsWidth (port_widths graph) =
+    All-map IsWidth (λ (p : List ℕ × ℕ). p.1) graph.inputs (All-from_get_or (λ (p : List ℕ × ℕ). IsWidth p.1) graph.inputs _ (λ i lt. net.inputs i lt)) in
+    let one : All IsWidth (1 ∷ []) = All-cons IsWidth 1 [] (omega arith, omega arith) (All-nil IsWidth) in
+    let whole : All IsWidth (product_widths graph n) =
+    All-append IsWidth (register_widths graph ++ register_widths graph ++ repeated n (port_widths graph)) (1 ∷ [])
+        (All-append IsWidth (register_widths graph ++ register_widths graph) (repeated n (port_widths graph)) (All-append IsWidth (register_widths graph) (register_widths graph) rs rs) (all_repeated IsWidth n (port_widths graph) ps)) one in
+    subst AreWidths (sym e) (λ i lt. whole i 0 lt)
+
+pub all_widths : (graph : Net) (n k : ℕ) (rs ps all all' : List ℕ) → k ≡ n → all ≡ register_widths graph ++ register_widths graph ++ repeated k (port_widths graph) → all' ≡ all ++ 1 ∷ [] → all' ≡ product_widths graph n
+all_widths graph n k rs ps all all' ek h e =
+    e ∙ (ap (λ (l : List ℕ). l ++ 1 ∷ []) h ∙ ap (λ (j : ℕ). register_widths graph ++ register_widths graph ++ repeated j (port_widths graph) ++ 1 ∷ []) ek)
+
 -- ---- ranges
 
 counting : (a n : ℕ) → range_with_len a (suc n) ≡ range_with_len a n ++ (a + n) ∷ []
@@ -126,3 +147,50 @@ ranges_step from count at k list ns ns' one el eo ea e h =
     rw add-one (ap lists_of e ∙ (map-append (λ (n : Nodes). n.list.items) ns (one ∷ []) ∙
     (ap (λ (l : List (List ℕ)). l ++ one.list.items ∷ []) h ∙
     (ap (λ (x : List ℕ). ranges from count k ++ x ∷ []) (eo ∙ (el ∙ ap (λ (y : ℕ). range_with_len y count) ea)) ∙ sym (ranges_more from count k)))))
+
+-- a run of nodes ends before that of all cycles does
+pub run_room : (from count cycles k at : ℕ) → from + cycles * count < 2 ^ 64 → at ≡ from + k * count → k < cycles → at + count < 2 ^ 64
+run_room from count cycles k at room e lt = omega (arith, product_room k cycles count lt)
+  where
+    product_room : (k n m : ℕ) → k < n → k * m + m ≤ n * m
+    product_room k zero m lt = absurd (omega arith)
+    product_room zero (suc n) m lt = omega (arith, suc-mul n m, zero-mul m)
+    product_room (suc k) (suc n) m lt = omega (arith, suc-mul n m, suc-mul k m, product_room k n m (omega arith))
+
+pub next_run : (from count k at : ℕ) → at ≡ from + k * count → at + count ≡ from + (k + 1) * count
+next_run from count k at e = rw add-one (omega (arith, suc-mul k count))
+
+pub first_run : (from count : ℕ) → from ≡ from + 0 * count
+first_run from count = omega (arith, zero-mul count)
+
+-- ---- pieces
+
+pieces_more : (m k : ℕ) (ws : List Bits) → pieces m (suc k) ws ≡ pieces m k ws ++ take m (drop (k * m) ws) ∷ []
+pieces_more m zero ws = let e : 0 ≡ 0 * m = omega (arith, zero-mul m) in ap (λ (j : ℕ). take m (drop j ws) ∷ []) e
+pieces_more m (suc k) ws =
+    let e : m + k * m ≡ suc k * m = omega (arith, suc-mul k m) in
+    ap (λ (l : List (List Bits)). take m ws ∷ l) (pieces_more m k (drop m ws) ∙ ap (λ (l : List Bits). pieces m k (drop m ws) ++ take m l ∷ []) (drop-drop (k * m) m ws ∙ ap (λ (j : ℕ). drop j ws) e))
+
+-- so far: the pieces made, and the words that are left
+pub record PiecesSoFar (m k : ℕ) (ws rest : List Bits) (made : List (List Bits)) : Type 0 where
+  pub are : made ≡ pieces m k ws
+  pub rest_is : rest ≡ drop (k * m) ws
+
+pub pieces_none : (m : ℕ) (ws : List Bits) → PiecesSoFar m 0 ws ws []
+pieces_none m ws = record { are = refl; rest_is = let e : 0 ≡ 0 * m = omega (arith, zero-mul m) in ap (λ (j : ℕ). drop j ws) e }
+
+pub pieces_step : (m k : ℕ) (ws rest rest' piece : List Bits) (made made' : List (List Bits)) → piece ≡ take m rest → rest' ≡ drop m rest → made' ≡ made ++ piece ∷ [] → PiecesSoFar m k ws rest made → PiecesSoFar m (k + 1) ws rest' made'
+pieces_step m k ws rest rest' piece made made' ep er em h =
+    let e : k * m + m ≡ suc k * m = omega (arith, suc-mul k m) in
+    rw add-one (record {
+      are = em ∙ (ap (λ (l : List (List Bits)). l ++ piece ∷ []) h.are ∙ (ap (λ (p : List Bits). pieces m k ws ++ p ∷ []) (ep ∙ ap (take m) h.rest_is) ∙ sym (pieces_more m k ws)));
+      rest_is = er ∙ (ap (drop m) h.rest_is ∙ (drop-drop m (k * m) ws ∙ ap (λ (j : ℕ). drop j ws) e));
+    })
+
+pub piece_room : (m k n : ℕ) (ws rest : List Bits) (made : List (List Bits)) → length ws ≡ n * m + 1 → k < n → PiecesSoFar m k ws rest made → m ≤ length rest
+piece_room m k n ws rest made len lt h = omega (arith, ap length h.rest_is, length-drop (k * m) ws, product_room k n m lt)
+  where
+    product_room : (k n m : ℕ) → k < n → k * m + m ≤ n * m
+    product_room k zero m lt = absurd (omega arith)
+    product_room zero (suc n) m lt = omega (arith, suc-mul n m, zero-mul m)
+    product_room (suc k) (suc n) m lt = omega (arith, suc-mul n m, suc-mul k m, product_room k n m (omega arith))

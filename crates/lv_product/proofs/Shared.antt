@@ -36,6 +36,18 @@ sharing_on graph old new cs numbers left right nodes k test h = record {
   met = λ ws all. h.met ws (λ i e. all i (record { place = e.place; before = omega (arith, e.before); candidate = e.candidate; candidate_is = e.candidate_is; equality = e.equality }));
 }
 
+pub sharing_kept : (graph old now new : Net) (cs : List Candidate) (numbers left right nodes nodes' : List ℕ) (k test test' : ℕ) → new ≡ now → nodes' ≡ nodes → test' ≡ test → Shares graph old now cs numbers left right k nodes test → Shares graph old new cs numbers left right (k + 1) nodes' test'
+sharing_kept graph old now new cs numbers left right nodes nodes' k test test' eb en et h =
+    subst (λ (b : Net). Shares graph old b cs numbers left right (k + 1) nodes' test') (sym eb)
+    (subst (λ (l : List ℕ). Shares graph old now cs numbers left right (k + 1) l test') (sym en)
+    (subst (λ (t : ℕ). Shares graph old now cs numbers left right (k + 1) nodes t) (sym et) (sharing_on graph old now cs numbers left right nodes k test h)))
+
+pub sharing_moved : (graph old now new : Net) (cs : List Candidate) (numbers left right nodes nodes' : List ℕ) (k test test' : ℕ) → new ≡ now → nodes' ≡ nodes → test' ≡ test → Shares graph old now cs numbers left right k nodes test → Shares graph old new cs numbers left right k nodes' test'
+sharing_moved graph old now new cs numbers left right nodes nodes' k test test' eb en et h =
+    subst (λ (b : Net). Shares graph old b cs numbers left right k nodes' test') (sym eb)
+    (subst (λ (l : List ℕ). Shares graph old now cs numbers left right k l test') (sym en)
+    (subst (λ (t : ℕ). Shares graph old now cs numbers left right k nodes t) (sym et) h))
+
 first_true : (x y : Bool) → (x && y) ≡ true → x ≡ true
 first_true true y e = refl
 first_true false y e = e

@@ -1,7 +1,7 @@
 -- From the tests of nodes to the facts that they tell.
-use Rattle.std.proofs.Common.{◌≡◌, ◌≢◌, ℕ, suc, ◌+◌, ◌<◌, ◌==◌, Bool, true, false, not, ◌&&◌, ◌||◌, nat_eq, if◌then◌else◌, List, [], ◌∷◌, ◌++◌, length, map, take, get_or, slice_index, slice_get, Some, None, Option, All, Contains, refl, sym, ◌∙◌, ap, subst, arith, eqb-true, eq-eqb, true≢false}
+use Rattle.std.proofs.Common.{◌≡◌, ◌≢◌, ℕ, zero, suc, ◌+◌, ◌<◌, ◌==◌, Bool, true, false, not, ◌&&◌, ◌||◌, nat_eq, if◌then◌else◌, List, [], ◌∷◌, ◌++◌, length, map, take, get_or, slice_index, slice_get, Some, None, Option, All, Contains, refl, sym, ◌∙◌, ap, subst, arith, eqb-true, eq-eqb, true≢false}
 use Rattle.std.proofs.lemmas.List.{get_or-map, length-map}
-use Rattle.std.proofs.lemmas.List.Elements.{All-map}
+use Rattle.std.proofs.lemmas.List.Elements.{All-map, recursion_from_All}
 use Rattle.std.proofs.lemmas.Bool.Decides.{Decides-at, Decides-like, Decides-not, Decides-and, Decides-by_and}
 use Rattle.std.specs.Prelude.{Decides}
 use Rattle.std.specs.List.{list_all, AllByRecursion}
@@ -125,6 +125,9 @@ place_is old now graph ws ts k t items ei et lt h s =
 pub nodes_in : (net graph : Net) (table : List ℕ) → IsTableOf net graph table → IsTable net table
 nodes_in net graph table h = λ k lt. h.within k (omega (arith, h.count))
 
+pub all_ports : (n : ℕ) (ports : List Port) → All (IsPort n (entry_length ports)) ports → ArePorts n ports
+all_ports n ports h = recursion_from_All (IsPort n (entry_length ports)) ports h
+
 pub ports_in : (net graph : Net) (table : List ℕ) (ps ports : List Port) → ps ≡ ports → IsTableOf net graph table → ArePorts (length graph.nodes) ports → ArePorts (length table) ps
 ports_in net graph table ps ports e h g = subst (ArePorts (length table)) (sym e) (subst (λ (n : ℕ). ArePorts n ports) (sym h.count) g)
 
@@ -238,7 +241,7 @@ alike_gives task old b1 b2 b3 b4 b5 b6 new agree loose kept first second allowed
     let rows : (ts : List Nodes) → AllByRecursion (IsCopy old task.graph) ts → rows_in old ws ps ts ≡ observations m (cycles_by old ts ws) = λ ts hs.
     ap (λ (p : List Port). rows_in old ws p ts) ep ∙ rows_are task old ws count ts hp hs in
     let da : Decides (is_on b2 ws agree) (Agree (observations m lv) (observations m rv)) =
-    along_two Agree (is_on b2 ws agree) (rows_in old ws ps ls) (observations m lv) (rows_in old ws ps rs) (observations m rv) (rows ls hl) (rows rs hr) (told old b1 b2 agree _ g o.extends ws) in
+    along_two (λ (x y : List (List ℕ)). Agree x y) (is_on b2 ws agree) (rows_in old ws ps ls) (observations m lv) (rows_in old ws ps rs) (observations m rv) (rows ls hl) (rows rs hr) (told old b1 b2 agree _ g o.extends ws) in
     let dk : Decides (is_on b6 ws kept) (a ≡ true → Agree (observations m lv) (observations m rv)) =
     Decides-at (is_on b6 ws kept) (not a || is_on b2 ws agree) (later_on b2 b3 b6 kept _ k s36 ws ∙ ap (λ (t : Bool). t || is_on b2 ws agree) (o.on ws ∙ ap not (on_kept old b1 ws aligned g.extends ha))) (decides_if a (is_on b2 ws agree) da) in
     let side : (now : Net) (zs : List ℕ) (ts : List Nodes) → Extends old now → zs ≡ task.assume.items → AllByRecursion (IsCopy old task.graph) ts → Decides (list_all (allowed_test now zs ws) ts) (AllByRecursion m.IsAllowed (cycles_by old ts ws)) = λ now zs ts x ez hs.

@@ -200,7 +200,7 @@ copy_kept whole old new k at s h = record {
 }
 
 pub record TrimmedTo (whole net : Net) (k : ℕ) (table : List ℕ) : Type 0 where
-  pub open : AreOpen whole net
+  pub opening : AreOpen whole net
   pub registers : net.registers ≡ []
   pub ports : port_widths net ≡ port_widths whole
   pub copies : AreCopies whole net k table
@@ -210,7 +210,7 @@ trimmed_none whole net widths widths' table e e' o et =
     let all : widths' ≡ port_widths whole = e' ∙ e in
     let count : length widths' ≡ length whole.inputs = ap length all ∙ length-map whole.inputs (λ (p : List ℕ × ℕ). p.1) in
     subst (TrimmedTo whole net 0) (sym et) (record {
-      open = record {
+      opening = record {
         within = λ i lt. omega (arith, o.count, count);
         widths = λ i lt. o.widths_are i (omega (arith, count)) ∙ (ap (λ (l : List ℕ). slice_index l i) all ∙ get_or-map (λ (p : List ℕ × ℕ). p.1) whole.inputs i ([], 0) 0 lt);
         words = λ ws i lt. o.words ws i (omega (arith, count));
@@ -225,10 +225,10 @@ trimmed_step whole old new k at table table' e h g =
     let s : Extends old new = g.extends in
     let more : length (table ++ at ∷ []) ≡ k + 1 = omega (arith, length-append table (at ∷ []), h.copies.count) in
     subst (TrimmedTo whole new (k + 1)) (sym e) (record {
-      open = record {
-        within = λ i lt. omega (arith, h.open.within i lt, s.more);
-        widths = λ i lt. s.widths i (h.open.within i lt) ∙ h.open.widths i lt;
-        words = λ ws i lt. s.words ws i (h.open.within i lt) ∙ h.open.words ws i lt;
+      opening = record {
+        within = λ i lt. omega (arith, h.opening.within i lt, s.more);
+        widths = λ i lt. s.widths i (h.opening.within i lt) ∙ h.opening.widths i lt;
+        words = λ ws i lt. s.words ws i (h.opening.within i lt) ∙ h.opening.words ws i lt;
       };
       registers = s.registers ∙ h.registers;
       ports = ap (map (λ (p : List ℕ × ℕ). p.1)) s.inputs ∙ h.ports;

@@ -4,7 +4,7 @@ use Rattle.lv_model.specs.Stepper.{IsOfState, IsOfInput}
 use Rattle.lv_netlist.specs.Net.{Net}
 use Rattle.lv_netlist.specs.Stepping.{stepper_of, node_value}
 use Rattle.lv_unroll.specs.declared.rows.Port.{Port}
-use Rattle.lv_unroll.specs.Entries.{ArePorts}
+use Rattle.lv_unroll.specs.Entries.{IsPort, entry_length}
 use Rattle.lv_product.specs.declared.task.Candidate.{Candidate}
 use Rattle.lv_product.specs.declared.task.Candidate.TheVariants.{Eq, When, Each, Aligned}
 
@@ -30,7 +30,7 @@ IsCandidate net c = All (IsStateNode net) (nodes_of c)
 pub record IsTask {T : Type 0} (graph : Net) (ports : List Port) (attacker assume equal each : List ℕ) (candidates : List Candidate) (texts : List T) (lookahead : ℕ) : Type 0 where
   pub some_ports : 1 ≤ length ports
   pub few_ports : length ports ≤ 4
-  pub ports_are : ArePorts (length graph.nodes) ports
+  pub ports_are : All (IsPort (length graph.nodes) (entry_length ports)) ports
   pub attacker_is : All (λ k. k < length graph.nodes) attacker
   pub assume_is : All (IsInputNode graph) assume
   pub equal_is : All (IsStateNode graph) equal

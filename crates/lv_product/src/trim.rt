@@ -54,11 +54,11 @@ fn is_there(table: &[u64], k: u64) -> bool
 }
 
 // Whether the table has copies of the node's operands; an input or a register has none.
-fn is_ready(graph: &Graph, node: Node, table: &[u64]) -> bool
-    requires { IsRight graph.now (length table.now) node }
-    ensures { result ≡ is_ready table.now node }
+fn is_ready(graph: &Graph, node: &Node, table: &[u64]) -> bool
+    requires { IsRight graph.now (length table.now) node.now }
+    ensures { result ≡ is_ready table.now node.now }
 {
-    match node {
+    match *node {
         Node::Input(_) | Node::Reg(_) => false,
         Node::Const(_) => true,
         Node::Un(_, a) | Node::Slice(a, _, _) | Node::Ext(a, _, _) => is_there(table, a),
@@ -99,7 +99,7 @@ fn copied_inner(
     if !marked {
         return Ok(NO_COPY);
     }
-    if !is_ready(whole, node, table) {
+    if !is_ready(whole, &node, table) {
         return Ok(NO_COPY);
     }
     let copy = moved(whole, node, table);

@@ -1,4 +1,4 @@
-ghost use Rattle.std.specs.Prelude.{◌≡◌, ℕ, length, IfOk};
+ghost use Rattle.std.specs.Prelude.{◌≡◌, ℕ, ◌<◌, length, IfOk};
 ghost use Rattle.lv_model.specs.Meeting.{cycles_of};
 ghost use Rattle.lv_netlist.specs.Queries.{IsGoalOf};
 ghost use Rattle.lv_product.specs.Queries.{FitsKept, asked, observers_of};

@@ -1,4 +1,4 @@
-use Rattle.lv_product.proofs.Telling.{alike_gives}
+use Rattle.lv_product.proofs.Telling.{all_ports, alike_gives}
 use Rattle.lv_product.proofs.goals.alike.Goals as goal
 
 pub returns : goal.returns
@@ -6,5 +6,5 @@ returns c =
     alike_gives c.args.task.now c.args.b.now c.agreement.new.b c.negated.new.b c.either.new.b c.all_allowed.new.b c.all_allowed-2.new.b c.both.new.b c.both-2.new.b
     c.in_ok-agree.agree c.in_ok-loose.loose c.in_ok-kept.kept c.in_ok-first.first c.in_ok-second.second c.in_ok-allowed.allowed c.in_ok-at.at c.args.aligned _
     c.as_slice.result.now c.as_slice-2.result.now c.as_slice-3.result.now c.args.left.now c.args.right.now
-    c.as_slice.ensures.value c.as_slice-2.ensures.value c.as_slice-3.ensures.value c.args.task.now.fits.ports_are c.requires.left c.requires.right c.requires.aligned
+    c.as_slice.ensures.value c.as_slice-2.ensures.value c.as_slice-3.ensures.value (all_ports _ c.args.task.now.ports.items c.args.task.now.fits.ports_are) c.requires.left c.requires.right c.requires.aligned
     c.in_ok-agree.ensures c.in_ok-loose.ensures c.in_ok-kept.ensures c.in_ok-first.ensures c.in_ok-second.ensures c.in_ok-allowed.ensures c.in_ok-at.ensures

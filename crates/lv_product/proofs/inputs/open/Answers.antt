@@ -3,7 +3,7 @@ use Rattle.lv_product.proofs.Opened.{opening_none, opening_step, opened, new_nam
 use Rattle.lv_product.proofs.inputs.open.Goals as goal
 
 pub loop-k-init : goal.loop-k-init
-loop-k-init c = opening_none c.args.widths.now c.new.result c.new.ensures
+loop-k-init c = opening_none c.args.widths.now c.new-b.result c.new-b.ensures
 
 pub input-requires-clause-new : goal.input-requires-clause-new
 input-requires-clause-new c = new_name c.args.widths.now c.loop-k.k c.loop-k.b c.in_ok-name.name (omega arith) c.in_ok-name.ensures c.loop-k.invariant

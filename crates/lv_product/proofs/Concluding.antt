@@ -5,7 +5,7 @@ use Rattle.std.proofs.lemmas.List.{length-map, get_or-map}
 use Rattle.std.specs.List.{AllByRecursion, range_with_len}
 use Rattle.lv_bits.specs.Words.{Bits}
 use Rattle.lv_bits.specs.Values.{bit}
-use Rattle.lv_model.specs.Machine.{IsRun, AllHold}
+use Rattle.lv_model.specs.Machine.{IsRun, AllHold, Query as Asked}
 use Rattle.lv_model.specs.Meeting.{IsMetBy, cycles_of}
 use Rattle.lv_model.specs.Design.{Observers, CandidateHolds, MaybeHolds}
 use Rattle.lv_model.specs.Stepper.{Stepper, unrolled}
@@ -332,3 +332,7 @@ module _ (task : Task) (s : List ℕ) (q : Query) (n : ℕ) (is_n : n ≡ cycles
 
 pub no_nexts : (net : Net) → net.registers ≡ [] → HasNexts net
 no_nexts net e = λ i lt. absurd (let none : length net.registers ≡ 0 = ap length e in omega arith)
+
+pub inputs_count : (graph : Net) (o : Observers GraphCycle) (b n : ℕ) (s : List ℕ) (q : Asked) (net : Net) (goal : ℕ) → n ≡ cycles_of q b → IsGoalOf graph o b s q net goal → length net.inputs ≡ length graph.registers + length graph.registers + n * length graph.inputs + 1
+inputs_count graph o b n s q net goal e h =
+    sym (length-map net.inputs (λ (p : List ℕ × ℕ). p.1)) ∙ (ap length h.widths ∙ (ap (λ (c : ℕ). length (product_widths graph c)) (sym e) ∙ length_product graph n))

@@ -109,6 +109,12 @@ all_repeated : (P : ℕ → Type 0) (n : ℕ) (xs : List ℕ) → All P xs → A
 all_repeated P zero xs h = λ i d lt. absurd (omega arith)
 all_repeated P (suc n) xs h = All-append P xs (repeated n xs) h (all_repeated P n xs h)
 
+pub ports_right : (graph : Net) (ws : List ℕ) → IsNet graph → ws ≡ port_widths graph → AreWidths ws
+ports_right graph ws net e =
+    let ps : All IsWidth (port_widths graph) =
+    All-map IsWidth (λ (p : List ℕ × ℕ). p.1) graph.inputs (All-from_get_or (λ (p : List ℕ × ℕ). IsWidth p.1) graph.inputs _ (λ i lt. net.inputs i lt)) in
+    subst AreWidths (sym e) (λ i lt. ps i 0 lt)
+
 pub widths_right : (graph : Net) (n : ℕ) (all : List ℕ) → IsNet graph → all ≡ product_widths graph n → AreWidths all
 widths_right graph n all net e =
     let rs : All IsWidth (register_widths graph) =
@@ -121,8 +127,12 @@ widths_right graph n all net e =
         (All-append IsWidth (register_widths graph ++ register_widths graph) (repeated n (port_widths graph)) (All-append IsWidth (register_widths graph) (register_widths graph) rs rs) (all_repeated IsWidth n (port_widths graph) ps)) one in
     subst AreWidths (sym e) (λ i lt. whole i 0 lt)
 
-pub all_widths : (graph : Net) (n k : ℕ) (rs ps all all' : List ℕ) → k ≡ n → all ≡ register_widths graph ++ register_widths graph ++ repeated k (port_widths graph) → all' ≡ all ++ 1 ∷ [] → all' ≡ product_widths graph n
-all_widths graph n k rs ps all all' ek h e =
+pub widths_start : (graph : Net) (rs first all : List ℕ) → rs ≡ register_widths graph → first ≡ rs → all ≡ first ++ rs → all ≡ register_widths graph ++ register_widths graph ++ repeated 0 (port_widths graph)
+widths_start graph rs first all er ef e =
+    e ∙ (ap (λ (l : List ℕ). l ++ rs) (ef ∙ er) ∙ (ap (λ (l : List ℕ). register_widths graph ++ l) er ∙ sym (append-nil (register_widths graph ++ register_widths graph))))
+
+pub all_widths : (graph : Net) (n k : ℕ) (all all' : List ℕ) → k ≡ n → all ≡ register_widths graph ++ register_widths graph ++ repeated k (port_widths graph) → all' ≡ all ++ 1 ∷ [] → all' ≡ product_widths graph n
+all_widths graph n k all all' ek h e =
     e ∙ (ap (λ (l : List ℕ). l ++ 1 ∷ []) h ∙ ap (λ (j : ℕ). register_widths graph ++ register_widths graph ++ repeated j (port_widths graph) ++ 1 ∷ []) ek)
 
 -- ---- ranges
@@ -162,6 +172,13 @@ next_run from count k at e = rw add-one (omega (arith, suc-mul k count))
 
 pub first_run : (from count : ℕ) → from ≡ from + 0 * count
 first_run from count = omega (arith, zero-mul count)
+
+length_ranges : (from count n : ℕ) → length (ranges from count n) ≡ n
+length_ranges from count zero = refl
+length_ranges from count (suc n) = ap suc (length_ranges (from + count) count n)
+
+pub run_count : (from count n : ℕ) (nodes : List Nodes) → lists_of nodes ≡ ranges from count n → length nodes ≡ n
+run_count from count n nodes e = sym (length-map nodes (λ (x : Nodes). x.list.items)) ∙ (ap length e ∙ length_ranges from count n)
 
 -- ---- pieces
 

@@ -128,6 +128,9 @@ nodes_in net graph table h = λ k lt. h.within k (omega (arith, h.count))
 pub all_ports : (n : ℕ) (ports : List Port) → All (IsPort n (entry_length ports)) ports → ArePorts n ports
 all_ports n ports h = recursion_from_All (IsPort n (entry_length ports)) ports h
 
+pub ports_same : (n : ℕ) (ps ports : List Port) → ps ≡ ports → All (IsPort n (entry_length ports)) ports → ArePorts n ps
+ports_same n ps ports e h = subst (ArePorts n) (sym e) (all_ports n ports h)
+
 pub ports_in : (net graph : Net) (table : List ℕ) (ps ports : List Port) → ps ≡ ports → IsTableOf net graph table → ArePorts (length graph.nodes) ports → ArePorts (length table) ps
 ports_in net graph table ps ports e h g = subst (ArePorts (length table)) (sym e) (subst (λ (n : ℕ). ArePorts n ports) (sym h.count) g)
 

@@ -88,6 +88,17 @@ ready_inner table (Slice a low width) h = tt
 ready_inner table (Cat a b) h = tt
 ready_inner table (Ext a width signed) h = tt
 
+pub inner_moved : (table : List ℕ) (n : Node) → IsInner n → IsInner (moved_node table n)
+inner_moved table (Input i) h = h
+inner_moved table (Reg i) h = h
+inner_moved table (Const w) h = tt
+inner_moved table (Un op a) h = tt
+inner_moved table (Bin op a b signed) h = tt
+inner_moved table (Mux c a b) h = tt
+inner_moved table (Slice a low width) h = tt
+inner_moved table (Cat a b) h = tt
+inner_moved table (Ext a width signed) h = tt
+
 first_true : (x y : Bool) → (x && y) ≡ true → x ≡ true
 first_true true y e = refl
 first_true false y e = e

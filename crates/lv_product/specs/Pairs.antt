@@ -19,9 +19,9 @@ pub record ProductValue : Type 0 where
 abbrev pub words_of : List Inputs → List (List Bits)
 words_of inputs = map (λ (i : Inputs). i.words.items) inputs
 
--- the pair whose words these are
-pub record IsPairOf (p : ProductValue) (words : List Bits) (pair : Pair) : Type 0 where
-  pub left : pair.left.items ≡ take p.registers words
-  pub right : pair.right.items ≡ take p.registers (drop p.registers words)
-  pub inputs : words_of pair.inputs.items ≡ pieces p.inputs p.cycles (drop (p.registers + p.registers) words)
-  pub aligned : pair.aligned ≡ not ((bits_at words (p.registers + p.registers + p.cycles * p.inputs)).value == 0)
+-- the pair whose words these are, for so many registers, inputs and cycles
+pub record IsPairOf (registers inputs cycles : ℕ) (words : List Bits) (pair : Pair) : Type 0 where
+  pub left : pair.left.items ≡ take registers words
+  pub right : pair.right.items ≡ take registers (drop registers words)
+  pub each : words_of pair.inputs.items ≡ pieces inputs cycles (drop (registers + registers) words)
+  pub aligned : pair.aligned ≡ not ((bits_at words (registers + registers + cycles * inputs)).value == 0)

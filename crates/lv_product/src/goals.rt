@@ -126,16 +126,20 @@ fn holding(
         GivesFact b.old b.new at (λ ws. AreHolding task.now kept.now.numbers.items (cycles_by b.old left.now ws) (cycles_by b.old right.now ws) (is_on b.old ws aligned))) }
 {
     let seen = task.lookahead as usize + 1;
-    let alike = alike(alloc, b, task, &left[..seen], &right[..seen], aligned)?;
+    let ls = &left[..seen];
+    let rs = &right[..seen];
+    let alike = alike(alloc, b, task, ls, rs, aligned)?;
     let first = &left[0];
     let second = &right[0];
+    let l = first.list.as_slice();
+    let r = second.list.as_slice();
     let hold = all_hold(
         b,
         &task.graph,
         task.candidates.as_slice(),
         kept.numbers.as_slice(),
-        first.list.as_slice(),
-        second.list.as_slice(),
+        l,
+        r,
         aligned,
     )?;
     let at = both(b, alike, hold)?;
@@ -153,14 +157,16 @@ fn base(b: &mut Builder, task: &Task, kept: &Kept, left: &[Nodes], right: &[Node
 {
     let first = &left[0];
     let second = &right[0];
-    let initial = initial_pair(b, task, first.list.as_slice(), second.list.as_slice())?;
+    let l = first.list.as_slice();
+    let r = second.list.as_slice();
+    let initial = initial_pair(b, task, l, r)?;
     let hold = all_hold(
         b,
         &task.graph,
         task.candidates.as_slice(),
         kept.numbers.as_slice(),
-        first.list.as_slice(),
-        second.list.as_slice(),
+        l,
+        r,
         aligned,
     )?;
     let start = both(b, initial, aligned)?;
@@ -188,23 +194,27 @@ fn step(
     let holding = holding(alloc, b, task, kept, left, right, aligned)?;
     let first = &left[0];
     let second = &right[0];
+    let l = first.list.as_slice();
+    let r = second.list.as_slice();
     let after = next_aligned(
         alloc,
         b,
         task,
-        first.list.as_slice(),
-        second.list.as_slice(),
+        l,
+        r,
         aligned,
     )?;
     let third = &left[1];
     let fourth = &right[1];
+    let x = third.list.as_slice();
+    let y = fourth.list.as_slice();
     let hold = all_hold(
         b,
         &task.graph,
         task.candidates.as_slice(),
         kept.numbers.as_slice(),
-        third.list.as_slice(),
-        fourth.list.as_slice(),
+        x,
+        y,
         after,
     )?;
     let at = unless(b, holding, hold)?;
@@ -231,12 +241,14 @@ fn imply(
     let holding = holding(alloc, b, task, kept, left, right, aligned)?;
     let first = &left[0];
     let second = &right[0];
+    let l = first.list.as_slice();
+    let r = second.list.as_slice();
     let same = all_same(
         b,
         &task.graph,
         task.attacker.as_slice(),
-        first.list.as_slice(),
-        second.list.as_slice(),
+        l,
+        r,
     )?;
     let at = unless(b, holding, same)?;
     Ok(at)
@@ -267,12 +279,15 @@ pub(crate) fn goal(
         Query::Initial => {
             let first = &left[0];
             let second = &right[0];
-            let at = initial_pair(b, task, first.list.as_slice(), second.list.as_slice())?;
+            let l = first.list.as_slice();
+            let r = second.list.as_slice();
+            let at = initial_pair(b, task, l, r)?;
             Ok(at)
         }
         Query::Allowed => {
             let first = &left[0];
-            let at = allowed(b, task, first.list.as_slice())?;
+            let l = first.list.as_slice();
+            let at = allowed(b, task, l)?;
             Ok(at)
         }
         Query::Base => {

@@ -1,4 +1,4 @@
-ghost use Rattle.std.specs.Prelude.{◌≡◌, ℕ, ◌+◌, ◌*◌, ◌^◌, ◌<◌, length, IfOk};
+ghost use Rattle.std.specs.Prelude.{◌≡◌, ℕ, ◌+◌, ◌*◌, ◌^◌, ◌<◌, ◌++◌, length, IfOk};
 ghost use Rattle.std.specs.List.{range_with_len};
 ghost use Rattle.std.specs.Int.{w64, to_le_bytes};
 ghost use Rattle.lv_netlist.specs.Queries.{register_widths, port_widths, product_widths};
@@ -10,7 +10,7 @@ use lv_unroll::Nodes;
 use std::alloc::Global;
 
 fn register_widths(alloc: Global, graph: &Graph) -> Result<Vec<u32>, NoMemory>
-    ensures is { IfOk result (λ widths. widths.items ≡ register_widths graph.now) }
+    ensures { IfOk result (λ widths. widths.items ≡ register_widths graph.now) }
 {
     let mut widths = Vec::new(alloc);
     for k in 0..graph.registers() {
@@ -22,7 +22,7 @@ fn register_widths(alloc: Global, graph: &Graph) -> Result<Vec<u32>, NoMemory>
 }
 
 pub(crate) fn port_widths(alloc: Global, graph: &Graph) -> Result<Vec<u32>, NoMemory>
-    ensures is { IfOk result (λ widths. widths.items ≡ port_widths graph.now) }
+    ensures { IfOk result (λ widths. widths.items ≡ port_widths graph.now) }
 {
     let mut widths = Vec::new(alloc);
     for k in 0..graph.inputs() {
@@ -33,6 +33,14 @@ pub(crate) fn port_widths(alloc: Global, graph: &Graph) -> Result<Vec<u32>, NoMe
     Ok(widths)
 }
 
+fn joined(widths: Vec<u32>, more: &[u32]) -> Result<Vec<u32>, NoMemory>
+    ensures { IfOk result (λ all. all.items ≡ widths.items ++ more.now) }
+{
+    let mut all = widths;
+    all.extend_from_slice(more)?;
+    Ok(all)
+}
+
 /// The widths of a query's words: the left registers, the right registers, the inputs of each cycle, and 1.
 pub(crate) fn product_widths(alloc: Global, graph: &Graph, cycles: u64) -> Result<Vec<u32>, NoMemory>
     ensures is { IfOk result (λ widths. widths.items ≡ product_widths graph.now cycles) }
@@ -41,10 +49,12 @@ pub(crate) fn product_widths(alloc: Global, graph: &Graph, cycles: u64) -> Resul
     let _ = graph.len();
     let registers = register_widths(alloc, graph)?;
     let ports = port_widths(alloc, graph)?;
-    let mut all = Vec::from_slice(alloc, registers.as_slice())?;
-    all.extend_from_slice(registers.as_slice())?;
+    let r = registers.as_slice();
+    let p = ports.as_slice();
+    let first = Vec::from_slice(alloc, r)?;
+    let mut all = joined(first, r)?;
     for _k in 0..cycles {
-        all.extend_from_slice(ports.as_slice())?;
+        all = joined(all, p)?;
     }
     all.reserve(1)?;
     all.push_reserved(1);

@@ -1,4 +1,5 @@
-ghost use Rattle.std.specs.Prelude.{◌≡◌, ℕ, ◌+◌, ◌*◌, length, IfOk};
+ghost use Rattle.std.specs.Prelude.{◌≡◌, ℕ, ◌+◌, ◌*◌, ◌<◌, ◌≤◌, ◌==◌, not, take, drop, length, IfOk};
+ghost use Rattle.lv_netlist.specs.Run.{bits_at};
 ghost use Rattle.lv_netlist.specs.Fits.{FitsInputs};
 ghost use Rattle.lv_netlist.specs.Queries.{pieces};
 ghost use Rattle.lv_product.specs.Pairs.{IsPairOf, words_of};
@@ -76,36 +77,70 @@ impl Product {
     /// There is one word for each input of the graph, of its width.
     pub fn pair(&self, alloc: Global, words: &[Word]) -> Result<Pair, NoMemory>
         requires { FitsInputs self.now.net words.now }
-        ensures { IfOk result (IsPairOf self.now words.now) }
+        ensures { IfOk result (IsPairOf self.now.registers self.now.inputs self.now.cycles words.now) }
     {
-        let registers = self.registers as usize;
-        let left = Vec::from_slice(alloc, &words[..registers])?;
-        let rest = &words[registers..];
-        let right = Vec::from_slice(alloc, &rest[..registers])?;
-        let rest = &rest[registers..];
-        let inputs = cycles(alloc, self.inputs, self.cycles, rest)?;
-        let aligned = words[words.len() - 1].value() != 0;
-        Ok(Pair {
-            left,
-            right,
-            inputs,
-            aligned,
-        })
+        let pair = pair_of(alloc, self.registers, self.inputs, self.cycles, words)?;
+        Ok(pair)
     }
 }
 
+fn first(words: &[Word], count: u64) -> &[Word]
+    requires { count ≤ length words.now }
+    ensures { result.now ≡ take count words.now }
+{
+    &words[..count as usize]
+}
+
+fn after(words: &[Word], count: u64) -> &[Word]
+    requires { count ≤ length words.now }
+    ensures { result.now ≡ drop count words.now }
+{
+    &words[count as usize..]
+}
+
+// Whether the last word isn't 0.
+fn is_last_on(words: &[Word]) -> bool
+    requires { 0 < length words.now }
+    ensures { (k : ℕ) → k + 1 ≡ length words.now → result ≡ not ((bits_at words.now k).value == 0) }
+{
+    words[words.len() - 1].value() != 0
+}
+
 // The words in pieces, one for each cycle.
-fn cycles(alloc: Global, count: u64, cycles: u64, words: &[Word]) -> Result<Vec<Inputs>, NoMemory>
+fn cycles_of(alloc: Global, count: u64, cycles: u64, words: &[Word]) -> Result<Vec<Inputs>, NoMemory>
     requires { length words.now ≡ cycles * count + 1 }
     ensures { IfOk result (λ inputs. words_of inputs.items ≡ pieces count cycles words.now) }
 {
     let mut inputs = Vec::new(alloc);
     let mut rest = words;
     for _k in 0..cycles {
-        let piece = Vec::from_slice(alloc, &rest[..count as usize])?;
-        rest = &rest[count as usize..];
+        let part = first(rest, count);
+        let piece = Vec::from_slice(alloc, part)?;
+        let more = after(rest, count);
         inputs.reserve(1)?;
         inputs.push_reserved(Inputs { words: piece });
+        rest = more;
     }
     Ok(inputs)
+}
+
+// The parts of the words.
+fn pair_of(alloc: Global, registers: u64, inputs: u64, cycles: u64, words: &[Word]) -> Result<Pair, NoMemory>
+    requires { length words.now ≡ registers + registers + cycles * inputs + 1 }
+    ensures { IfOk result (IsPairOf registers inputs cycles words.now) }
+{
+    let l = first(words, registers);
+    let left = Vec::from_slice(alloc, l)?;
+    let others = after(words, registers);
+    let r = first(others, registers);
+    let right = Vec::from_slice(alloc, r)?;
+    let rest = after(others, registers);
+    let inputs = cycles_of(alloc, inputs, cycles, rest)?;
+    let aligned = is_last_on(words);
+    Ok(Pair {
+        left,
+        right,
+        inputs,
+        aligned,
+    })
 }

@@ -112,6 +112,7 @@ fn copies(alloc: Global, whole: &Graph, goal: u64) -> Result<(Builder, u64), NoM
     requires { goal < length whole.now.nodes }
     ensures { IfOk result (λ p. p.1 ≢ no_copy → IsTrimmed whole.now p.0 goal p.1) }
 {
+    let _ = whole.len();
     let marks = needed(alloc, whole, goal)?;
     let widths = port_widths(alloc, whole)?;
     let mut b = open(alloc, widths.as_slice())?;

@@ -1,4 +1,4 @@
-ghost use Rattle.std.specs.Prelude.{◌≡◌, ℕ, ◌<◌, length, IfOk};
+ghost use Rattle.std.specs.Prelude.{◌≡◌, ℕ, ◌+◌, ◌<◌, length, IfOk};
 ghost use Rattle.lv_model.specs.Meeting.{cycles_of};
 ghost use Rattle.lv_netlist.specs.Queries.{IsGoalOf};
 ghost use Rattle.lv_product.specs.Queries.{FitsKept, asked, observers_of};
@@ -25,6 +25,14 @@ fn cycles_of(query: Query, lookahead: u32) -> u64
     }
 }
 
+// The last place.
+fn last_of(widths: &[u32]) -> u64
+    requires { 0 < length widths.now }
+    ensures { result + 1 ≡ length widths.now }
+{
+    widths.len() as u64 - 1
+}
+
 // A graph with all nodes of both copies, and the goal of the query.
 fn whole(alloc: Global, task: &Task, kept: &Kept, query: Query, cycles: u64) -> Result<(Graph, u64), NoMemory>
     requires kept { FitsKept task.now kept.now.numbers.items }
@@ -33,35 +41,26 @@ fn whole(alloc: Global, task: &Task, kept: &Kept, query: Query, cycles: u64) -> 
 {
     let graph = &task.graph;
     let widths = product_widths(alloc, graph, cycles)?;
-    let many = widths.len() as u64;
+    let w = widths.as_slice();
     let registers = graph.registers();
-    let mut b = open(alloc, widths.as_slice())?;
+    let ports = graph.inputs();
+    let start = registers + registers;
+    let mut b = open(alloc, w)?;
     let left = range(alloc, 0, registers)?;
     let right = range(alloc, registers, registers)?;
-    let inputs = cycle_nodes(alloc, registers + registers, graph.inputs(), cycles)?;
-    let aligned = many - 1;
-    let (first, alike) = first_nodes(
-        alloc,
-        &mut b,
-        task,
-        kept,
-        query,
-        left.as_slice(),
-        right.as_slice(),
-    )?;
-    let ls = unroll(alloc, &mut b, graph, left.as_slice(), inputs.as_slice())?;
-    let rs = unroll(alloc, &mut b, graph, first.as_slice(), inputs.as_slice())?;
-    let at = goal(
-        alloc,
-        &mut b,
-        task,
-        kept,
-        query,
-        ls.as_slice(),
-        rs.as_slice(),
-        aligned,
-    )?;
-    let both = both(&mut b, alike, at)?;
+    let inputs = cycle_nodes(alloc, start, ports, cycles)?;
+    let l = left.as_slice();
+    let r = right.as_slice();
+    let i = inputs.as_slice();
+    let aligned = last_of(w);
+    let shared = first_nodes(alloc, &mut b, task, kept, query, l, r)?;
+    let f = shared.0.as_slice();
+    let ls = unroll(alloc, &mut b, graph, l, i)?;
+    let rs = unroll(alloc, &mut b, graph, f, i)?;
+    let x = ls.as_slice();
+    let y = rs.as_slice();
+    let at = goal(alloc, &mut b, task, kept, query, x, y, aligned)?;
+    let both = both(&mut b, shared.1, at)?;
     graph.runs();
     let whole = b.finish();
     Ok((whole, both))

@@ -1,6 +1,10 @@
 use Rattle.std.proofs.Common.{◌∙◌, ◌++◌, ◌∷◌, [], List, ℕ, ap, arith}
+use Rattle.lv_product.proofs.Opened.{ports_right}
 use Rattle.lv_product.proofs.Trimmed.{trimmed_none, trimmed_step, trimmed_goal}
 use Rattle.lv_product.proofs.trim.copies.Goals as goal
+
+pub open-requires : goal.open-requires
+open-requires c = ports_right c.args.whole.now c.as_slice.result.now c.len.ensures.net (c.as_slice.ensures.value ∙ c.in_ok-widths.ensures)
 
 pub loop-k-init : goal.loop-k-init
 loop-k-init c =

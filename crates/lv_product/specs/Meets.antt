@@ -2,7 +2,7 @@
 use Rattle.std.specs.Prelude.{◌≡◌, ℕ, suc, Bool, true, List, [], map, take, slice_index_or}
 use Rattle.std.specs.List.{AllByRecursion}
 use Rattle.lv_bits.specs.Words.{Bits}
-use Rattle.lv_model.specs.Machine.{Machine, Agree, observations, AllHold, aligned_after}
+use Rattle.lv_model.specs.Machine.{Agree, observations, AllHold, aligned_after}
 use Rattle.lv_netlist.specs.Net.{Net}
 use Rattle.lv_unroll.specs.declared.copies.Nodes.{Nodes}
 use Rattle.lv_unroll.specs.Wires.{is_on}
@@ -10,7 +10,7 @@ use Rattle.lv_unroll.specs.Unrolls.{words_in}
 use Rattle.lv_product.specs.declared.task.Task.{Task}
 use Rattle.lv_product.specs.declared.task.Query.{Query}
 use Rattle.lv_product.specs.declared.task.Query.TheVariants.{Initial, Allowed, Base, Step, Imply}
-use Rattle.lv_product.specs.Values.{value_machine, values_in}
+use Rattle.lv_product.specs.Values.{value_machine}
 
 -- the values of each cycle's nodes
 abbrev pub Cycles : Type 0

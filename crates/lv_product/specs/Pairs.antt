@@ -1,5 +1,5 @@
 -- A product as contracts see it, and the pair that the words of its inputs are.
-use Rattle.std.specs.Prelude.{◌≡◌, ℕ, ◌+◌, ◌*◌, ◌==◌, Bool, not, List, map, take, drop}
+use Rattle.std.specs.Prelude.{◌≡◌, ℕ, ◌+◌, ◌*◌, ◌==◌, not, List, map, take, drop}
 use Rattle.lv_bits.specs.Words.{Bits}
 use Rattle.lv_netlist.specs.Net.{Net}
 use Rattle.lv_netlist.specs.Run.{bits_at}

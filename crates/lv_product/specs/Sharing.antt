@@ -1,5 +1,5 @@
 -- First nodes of the right copy that are shared with the left one.
-use Rattle.std.specs.Prelude.{◌≡◌, ℕ, ◌<◌, ◌⊎◌, Bool, true, List, [], length, slice_index, slice_get, Option, Some, None}
+use Rattle.std.specs.Prelude.{◌≡◌, ℕ, ◌<◌, ◌⊎◌, true, List, [], length, slice_index, slice_get, Some}
 use Rattle.lv_bits.specs.Words.{Bits}
 use Rattle.lv_bits.specs.Values.{bit}
 use Rattle.lv_netlist.specs.declared.node.Node.TheVariants.{Reg}
@@ -37,7 +37,8 @@ pub record Shares (graph old new : Net) (candidates : List Candidate) (numbers l
   pub each :
       (i : ℕ) → i < length right →
       (slice_index nodes i ≡ slice_index right i) ⊎
-      ((slice_index nodes i ≡ slice_index left i) × ((inputs : List Bits) → is_on new inputs test ≡ true → number_in old inputs (slice_index left i) ≡ number_in old inputs (slice_index right i)))
+      ((slice_index nodes i ≡ slice_index left i) × ((inputs : List Bits) → is_on new inputs test ≡ true →
+      number_in old inputs (slice_index left i) ≡ number_in old inputs (slice_index right i)))
   pub met :
       (inputs : List Bits) →
       ((i : ℕ) → IsKeptEqual graph candidates numbers k i → number_in old inputs (slice_index left i) ≡ number_in old inputs (slice_index right i)) →

@@ -27,7 +27,8 @@ abbrev pub IsCandidate : Net → Candidate → Type 0
 IsCandidate net c = All (IsStateNode net) (nodes_of c)
 
 -- what the type of a task keeps
-pub record IsTask {T : Type 0} (graph : Net) (ports : List Port) (attacker assume equal each : List ℕ) (candidates : List Candidate) (texts : List T) (lookahead : ℕ) : Type 0 where
+pub record IsTask {T : Type 0} (graph : Net) (ports : List Port) (attacker assume equal each : List ℕ) (candidates : List Candidate) (texts : List T)
+    (lookahead : ℕ) : Type 0 where
   pub some_ports : 1 ≤ length ports
   pub few_ports : length ports ≤ 4
   pub ports_are : All (IsPort (length graph.nodes) (entry_length ports)) ports

@@ -52,7 +52,12 @@ fn allowed(b: &mut Builder, task: &Task, table: &[u64]) -> Result<u64, NoMemory>
 }
 
 // A node that is 1 where the inputs of all these cycles are allowed.
-fn all_allowed(b: &mut Builder, graph: &Graph, assume: &[u64], tables: &[Nodes]) -> Result<u64, NoMemory>
+fn all_allowed(
+    b: &mut Builder,
+    graph: &Graph,
+    assume: &[u64],
+    tables: &[Nodes],
+) -> Result<u64, NoMemory>
     requires tables { AllByRecursion (IsCopy b.old graph.now) tables.now }
     requires nodes { AreNodes graph.now assume.now }
     ensures { IfOk result (λ at. GivesTest b.old b.new at (λ ws. list_all (λ t. list_all (is_met (words_in b.old ws t)) assume.now) tables.now)) }
@@ -94,12 +99,20 @@ fn alike(
 }
 
 // A node that isn't 0 where the next moment is aligned.
-fn next_aligned(alloc: Global, b: &mut Builder, task: &Task, left: &[u64], right: &[u64], aligned: u64) -> Result<u64, NoMemory>
+fn next_aligned(
+    alloc: Global,
+    b: &mut Builder,
+    task: &Task,
+    left: &[u64],
+    right: &[u64],
+    aligned: u64,
+) -> Result<u64, NoMemory>
     requires left { IsTableOf b.old task.now.graph left.now }
     requires right { IsTableOf b.old task.now.graph right.now }
     requires aligned { aligned < length b.old.nodes }
     ensures { IfOk result (λ at.
-        GivesTest b.old b.new at (λ ws. aligned_after (value_machine task.now) (values_in b.old left.now ws) (values_in b.old right.now ws) (is_on b.old ws aligned))) }
+        GivesTest b.old b.new at (λ ws.
+        aligned_after (value_machine task.now) (values_in b.old left.now ws) (values_in b.old right.now ws) (is_on b.old ws aligned))) }
 {
     let same = matching(alloc, b, task.ports.as_slice(), left, right)?;
     let at = both(b, aligned, same)?;
@@ -123,7 +136,8 @@ fn holding(
     requires kept { FitsKept task.now kept.now.numbers.items }
     requires aligned { aligned < length b.old.nodes }
     ensures { IfOk result (λ at.
-        GivesFact b.old b.new at (λ ws. AreHolding task.now kept.now.numbers.items (cycles_by b.old left.now ws) (cycles_by b.old right.now ws) (is_on b.old ws aligned))) }
+        GivesFact b.old b.new at (λ ws.
+        AreHolding task.now kept.now.numbers.items (cycles_by b.old left.now ws) (cycles_by b.old right.now ws) (is_on b.old ws aligned))) }
 {
     let seen = task.lookahead as usize + 1;
     let ls = &left[..seen];
@@ -146,7 +160,14 @@ fn holding(
     Ok(at)
 }
 
-fn base(b: &mut Builder, task: &Task, kept: &Kept, left: &[Nodes], right: &[Nodes], aligned: u64) -> Result<u64, NoMemory>
+fn base(
+    b: &mut Builder,
+    task: &Task,
+    kept: &Kept,
+    left: &[Nodes],
+    right: &[Nodes],
+    aligned: u64,
+) -> Result<u64, NoMemory>
     requires left { AllByRecursion (IsCopy b.old task.now.graph) left.now }
     requires right { AllByRecursion (IsCopy b.old task.now.graph) right.now }
     requires many { 0 < length left.now }
@@ -196,14 +217,7 @@ fn step(
     let second = &right[0];
     let l = first.list.as_slice();
     let r = second.list.as_slice();
-    let after = next_aligned(
-        alloc,
-        b,
-        task,
-        l,
-        r,
-        aligned,
-    )?;
+    let after = next_aligned(alloc, b, task, l, r, aligned)?;
     let third = &left[1];
     let fourth = &right[1];
     let x = third.list.as_slice();
@@ -243,13 +257,7 @@ fn imply(
     let second = &right[0];
     let l = first.list.as_slice();
     let r = second.list.as_slice();
-    let same = all_same(
-        b,
-        &task.graph,
-        task.attacker.as_slice(),
-        l,
-        r,
-    )?;
+    let same = all_same(b, &task.graph, task.attacker.as_slice(), l, r)?;
     let at = unless(b, holding, same)?;
     Ok(at)
 }

@@ -42,7 +42,11 @@ fn joined(widths: Vec<u32>, more: &[u32]) -> Result<Vec<u32>, NoMemory>
 }
 
 /// The widths of a query's words: the left registers, the right registers, the inputs of each cycle, and 1.
-pub(crate) fn product_widths(alloc: Global, graph: &Graph, cycles: u64) -> Result<Vec<u32>, NoMemory>
+pub(crate) fn product_widths(
+    alloc: Global,
+    graph: &Graph,
+    cycles: u64,
+) -> Result<Vec<u32>, NoMemory>
     ensures is { IfOk result (λ widths. widths.items ≡ product_widths graph.now cycles) }
     ensures widths { IfOk result (λ widths. AreWidths widths.items) }
 {
@@ -97,7 +101,12 @@ pub(crate) fn range(alloc: Global, from: u64, count: u64) -> Result<Vec<u64>, No
 }
 
 /// The nodes of each cycle's inputs, the first of them at `from`.
-pub(crate) fn cycle_nodes(alloc: Global, from: u64, count: u64, cycles: u64) -> Result<Vec<Nodes>, NoMemory>
+pub(crate) fn cycle_nodes(
+    alloc: Global,
+    from: u64,
+    count: u64,
+    cycles: u64,
+) -> Result<Vec<Nodes>, NoMemory>
     requires { from + cycles * count < 2 ^ 64 }
     ensures { IfOk result (λ nodes. lists_of nodes.items ≡ ranges from count cycles) }
 {

@@ -11,7 +11,13 @@ use lv_netlist::{Builder, Graph};
 use lv_unroll::{always, at, both, either, equal, negated};
 
 // A node that is 1 where node k has one number in both copies.
-fn same(b: &mut Builder, graph: &Graph, k: u64, left: &[u64], right: &[u64]) -> Result<u64, NoMemory>
+fn same(
+    b: &mut Builder,
+    graph: &Graph,
+    k: u64,
+    left: &[u64],
+    right: &[u64],
+) -> Result<u64, NoMemory>
     requires within { k < length graph.now.nodes }
     requires left { IsTableOf b.old graph.now left.now }
     requires right { IsTableOf b.old graph.now right.now }
@@ -64,7 +70,8 @@ fn holds(
     requires nodes { ReadsNodes graph.now candidate }
     requires aligned { aligned < length b.old.nodes }
     ensures { IfOk result (λ at.
-        GivesTruth b.old b.new at (λ ws. holds_test (candidate_by value_at candidate) (values_in b.old left.now ws) (values_in b.old right.now ws) (is_on b.old ws aligned))) }
+        GivesTruth b.old b.new at (λ ws.
+        holds_test (candidate_by value_at candidate) (values_in b.old left.now ws) (values_in b.old right.now ws) (is_on b.old ws aligned))) }
 {
     match candidate {
         Candidate::Eq(e) => {
@@ -88,7 +95,12 @@ fn holds(
 }
 
 /// A node that is 1 where none of the copies of these nodes is 0.
-pub(crate) fn all_met(b: &mut Builder, graph: &Graph, nodes: &[u64], table: &[u64]) -> Result<u64, NoMemory>
+pub(crate) fn all_met(
+    b: &mut Builder,
+    graph: &Graph,
+    nodes: &[u64],
+    table: &[u64],
+) -> Result<u64, NoMemory>
     requires table { IsTableOf b.old graph.now table.now }
     requires nodes { AreNodes graph.now nodes.now }
     ensures { IfOk result (λ at. GivesTest b.old b.new at (λ ws. list_all (is_met (values_in b.old table.now ws)) nodes.now)) }
@@ -104,7 +116,13 @@ pub(crate) fn all_met(b: &mut Builder, graph: &Graph, nodes: &[u64], table: &[u6
 }
 
 /// A node that is 1 where each of these nodes has one number in both copies.
-pub(crate) fn all_same(b: &mut Builder, graph: &Graph, nodes: &[u64], left: &[u64], right: &[u64]) -> Result<u64, NoMemory>
+pub(crate) fn all_same(
+    b: &mut Builder,
+    graph: &Graph,
+    nodes: &[u64],
+    left: &[u64],
+    right: &[u64],
+) -> Result<u64, NoMemory>
     requires left { IsTableOf b.old graph.now left.now }
     requires right { IsTableOf b.old graph.now right.now }
     requires nodes { AreNodes graph.now nodes.now }
@@ -136,7 +154,8 @@ pub(crate) fn all_hold(
     requires numbers { All (λ k. k < length candidates.now) numbers.now }
     requires aligned { aligned < length b.old.nodes }
     ensures { IfOk result (λ at.
-        GivesTest b.old b.new at (λ ws. list_all (holds_at candidates.now (values_in b.old left.now ws) (values_in b.old right.now ws) (is_on b.old ws aligned)) numbers.now)) }
+        GivesTest b.old b.new at (λ ws.
+        list_all (holds_at candidates.now (values_in b.old left.now ws) (values_in b.old right.now ws) (is_on b.old ws aligned)) numbers.now)) }
 {
     let mut all = always(b)?;
     for k in 0..numbers.len() as u64 {

@@ -107,7 +107,12 @@ fn is_last_on(words: &[Word]) -> bool
 }
 
 // The words in pieces, one for each cycle.
-fn cycles_of(alloc: Global, count: u64, cycles: u64, words: &[Word]) -> Result<Vec<Inputs>, NoMemory>
+fn cycles_of(
+    alloc: Global,
+    count: u64,
+    cycles: u64,
+    words: &[Word],
+) -> Result<Vec<Inputs>, NoMemory>
     requires { length words.now ≡ cycles * count + 1 }
     ensures { IfOk result (λ inputs. words_of inputs.items ≡ pieces count cycles words.now) }
 {
@@ -125,7 +130,13 @@ fn cycles_of(alloc: Global, count: u64, cycles: u64, words: &[Word]) -> Result<V
 }
 
 // The parts of the words.
-fn pair_of(alloc: Global, registers: u64, inputs: u64, cycles: u64, words: &[Word]) -> Result<Pair, NoMemory>
+fn pair_of(
+    alloc: Global,
+    registers: u64,
+    inputs: u64,
+    cycles: u64,
+    words: &[Word],
+) -> Result<Pair, NoMemory>
     requires { length words.now ≡ registers + registers + cycles * inputs + 1 }
     ensures { IfOk result (IsPairOf registers inputs cycles words.now) }
 {

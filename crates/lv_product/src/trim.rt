@@ -68,7 +68,13 @@ fn is_ready(graph: &Graph, node: &Node, table: &[u64]) -> bool
 }
 
 // A copy of node k where it is marked.
-fn copied(b: &mut Builder, whole: &Graph, k: u64, marked: bool, table: &[u64]) -> Result<u64, NoMemory>
+fn copied(
+    b: &mut Builder,
+    whole: &Graph,
+    k: u64,
+    marked: bool,
+    table: &[u64],
+) -> Result<u64, NoMemory>
     requires within { k < length whole.now.nodes }
     requires inputs { AreOpen whole.now b.old }
     requires table { AreCopies whole.now b.old k table.now }

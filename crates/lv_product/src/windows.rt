@@ -34,7 +34,13 @@ fn last_of(widths: &[u32]) -> u64
 }
 
 // A graph with all nodes of both copies, and the goal of the query.
-fn whole(alloc: Global, task: &Task, kept: &Kept, query: Query, cycles: u64) -> Result<(Graph, u64), NoMemory>
+fn whole(
+    alloc: Global,
+    task: &Task,
+    kept: &Kept,
+    query: Query,
+    cycles: u64,
+) -> Result<(Graph, u64), NoMemory>
     requires kept { FitsKept task.now kept.now.numbers.items }
     requires cycles { cycles ≡ cycles_of (asked query) task.now.lookahead }
     ensures { IfOk result (λ p. IsGoalOf task.now.graph (observers_of task.now) task.now.lookahead kept.now.numbers.items (asked query) p.0 p.1) }

@@ -1,4 +1,4 @@
-use Rattle.std.proofs.Common.{◌≡◌, ◌∙◌, ◌++◌, ◌∷◌, [], List, ℕ, ap, refl, arith}
+use Rattle.std.proofs.Common.{◌≡◌, ◌∙◌, ◌++◌, ◌∷◌, [], List, ap, refl, arith}
 use Rattle.lv_unroll.specs.declared.copies.Nodes.{Nodes}
 use Rattle.lv_product.specs.Opening.{ranges, lists_of}
 use Rattle.lv_product.proofs.Opened.{ranges_step, run_room, next_run, first_run}
@@ -18,7 +18,8 @@ loop-k-preserved c =
     let one : Nodes = record { list = c.in_ok-list.list } in
     record {
       lists = ranges_step c.args.from c.args.count c.loop-k.at c.loop-k._k c.in_ok-list.list.items c.loop-k.nodes.items c.push_reserved.new.self.items one
-          c.in_ok-list.ensures refl c.loop-k.invariant.at_is (c.push_reserved.ensures.items ∙ ap (λ (xs : List Nodes). xs ++ one ∷ []) c.reserve.ensures.items) c.loop-k.invariant.lists;
+          c.in_ok-list.ensures refl c.loop-k.invariant.at_is (c.push_reserved.ensures.items ∙
+          ap (λ (xs : List Nodes). xs ++ one ∷ []) c.reserve.ensures.items) c.loop-k.invariant.lists;
       at_is = next_run c.args.from c.args.count c.loop-k._k c.loop-k.at c.loop-k.invariant.at_is;
     }
 

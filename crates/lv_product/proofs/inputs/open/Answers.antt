@@ -10,7 +10,8 @@ input-requires-clause-new c = new_name c.args.widths.now c.loop-k.k c.loop-k.b c
 
 pub loop-k-preserved : goal.loop-k-preserved
 loop-k-preserved c =
-    opening_step c.args.widths.now c.loop-k.k _ c.loop-k.b c.input.new.self c.in_ok-name.name (omega arith) refl c.in_ok-name.ensures c.in_ok-input.ensures.is c.loop-k.invariant
+    opening_step c.args.widths.now c.loop-k.k _ c.loop-k.b c.input.new.self c.in_ok-name.name (omega arith) refl c.in_ok-name.ensures
+    c.in_ok-input.ensures.is c.loop-k.invariant
 
 pub returns : goal.returns
 returns c = opened c.args.widths.now c.loop-k.k c.loop-k.b (omega arith) c.loop-k.invariant

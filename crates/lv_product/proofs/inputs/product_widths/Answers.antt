@@ -10,7 +10,8 @@ loop-k-init c =
 
 pub loop-k-preserved : goal.loop-k-preserved
 loop-k-preserved c =
-    repeated_step c.loop-k._k (register_widths c.args.graph.now ++ register_widths c.args.graph.now) (port_widths c.args.graph.now) c.loop-k.all.items c.in_ok-all-2.all.items
+    repeated_step c.loop-k._k (register_widths c.args.graph.now ++ register_widths c.args.graph.now) (port_widths c.args.graph.now) c.loop-k.all.items
+    c.in_ok-all-2.all.items
     (c.in_ok-all-2.ensures ∙ ap (λ (l : List ℕ). c.loop-k.all.items ++ l) (c.as_slice-p.ensures.value ∙ c.in_ok-ports.ensures)) c.loop-k.invariant
 
 pub returns-clause-is : goal.returns-clause-is

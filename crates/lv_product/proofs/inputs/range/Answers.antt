@@ -1,4 +1,4 @@
-use Rattle.std.proofs.Common.{◌∙◌, ◌++◌, ◌∷◌, ◌+◌, [], List, ℕ, ap, refl, arith}
+use Rattle.std.proofs.Common.{◌∙◌, ◌++◌, ◌∷◌, ◌+◌, [], List, ℕ, ap, refl}
 use Rattle.lv_product.proofs.Opened.{range_step}
 use Rattle.lv_product.proofs.inputs.range.Goals as goal
 

@@ -1,6 +1,6 @@
 use Rattle.std.proofs.Common.{◌≡◌, true}
 use Rattle.lv_product.specs.Trimming.{is_ready}
-use Rattle.lv_product.proofs.Trimmed.{node_copied, ready_inner, ready_right, inner_moved}
+use Rattle.lv_product.proofs.Trimmed.{node_copied}
 use Rattle.lv_product.proofs.trim.copied_inner.Goals as goal
 
 pub returns : goal.returns

@@ -7,3 +7,4 @@ pub mod Parts
 pub mod Trimmed
 pub mod Shared
 pub mod Concluding
+pub mod Marking

@@ -48,13 +48,13 @@ in_parts : (state inputs before : List Bits) (xs ys : List Typed) →
 in_parts state inputs before [] ys = refl
 in_parts state inputs before (x ∷ xs) ys = in_parts state inputs (before ++ node_bits state inputs before x.node ∷ []) xs ys
 
-abbrev earlier : Net → List Bits → List Bits → ℕ → List Bits
+abbrev pub earlier : Net → List Bits → List Bits → ℕ → List Bits
 earlier net state ws k = values_from state ws [] (take k net.nodes)
 
 length_earlier : (net : Net) (state ws : List Bits) (k : ℕ) → k ≤ length net.nodes → length (earlier net state ws k) ≡ k
 length_earlier net state ws k le = omega (arith, long state ws [] (take k net.nodes), length-take k net.nodes)
 
-value_before : (net : Net) (state ws : List Bits) (a k : ℕ) → a < k → k ≤ length net.nodes →
+pub value_before : (net : Net) (state ws : List Bits) (a k : ℕ) → a < k → k ≤ length net.nodes →
     bits_at (values_of net state ws) a ≡ bits_at (earlier net state ws k) a
 value_before net state ws a k lt le =
     ap (λ (ns : List Typed). bits_at (values_from state ws [] ns) a) (sym (take-append-drop k net.nodes)) ∙

@@ -6,3 +6,4 @@ pub mod Opening
 pub mod Pairs
 pub mod Trimming
 pub mod Sharing
+pub mod Marks

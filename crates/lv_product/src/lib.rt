@@ -3,6 +3,7 @@
 
 mod goals;
 mod inputs;
+mod marks;
 mod moments;
 mod product;
 mod sharing;
@@ -11,6 +12,7 @@ mod trim;
 mod windows;
 
 pub use lv_unroll::Port;
+pub use marks::{input_nodes, state_nodes};
 pub use product::Product;
 pub use task::{Candidate, Kept, Pair, Query, Task};
 pub use windows::window;

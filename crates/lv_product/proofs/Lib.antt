@@ -1,0 +1,10 @@
+pub mod Holding
+pub mod Telling
+pub mod Reaching
+pub mod Carrying
+pub mod Opened
+pub mod Parts
+pub mod Trimmed
+pub mod Shared
+pub mod Concluding
+pub mod Marking

@@ -221,19 +221,19 @@ fn values(rt: HostRuntime) -> Result<(), Fail> {
     let Ok(cert) = read_cert(rt.alloc(), &bytes, SHAPE) else {
         return Err(Fail::from("refused"));
     };
-    if cert.kept.as_slice() != [0, 3] || cert.input.as_slice() != [12] {
+    if cert.kept.as_slice() != [0, 3].as_slice() || cert.input.as_slice() != [12].as_slice() {
         return Err(Fail::from("list"));
     }
-    if cert.left.as_slice() != [0, 340282366920938463463374607431768211455]
-        || cert.right.as_slice() != [1, 7]
+    if cert.left.as_slice() != [0, 340282366920938463463374607431768211455].as_slice()
+        || cert.right.as_slice() != [1, 7].as_slice()
     {
         return Err(Fail::from("states"));
     }
     if cert.base.len() != 1 || cert.step.len() != 2 || cert.imply.len() != 0 {
         return Err(Fail::from("lines"));
     }
-    if cert.step.line(1).hints() != [5, 3, 4]
-        || cert.step.line(0).clause().lits() != [Lit::new(1, false)]
+    if cert.step.line(1).hints() != [5, 3, 4].as_slice()
+        || cert.step.line(0).clause().lits() != [Lit::new(1, false)].as_slice()
     {
         return Err(Fail::from("step"));
     }

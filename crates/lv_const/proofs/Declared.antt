@@ -1,8 +1,8 @@
 -- Names that have a value, and the constants that are declared before a place.
-use Rattle.std.proofs.Common.{if◌then◌else◌, ◌≡◌, Bool, true, false, ◌&&◌, List, refl, sym, ◌∙◌, ap, Option, Some, None, inl, inr}
+use Rattle.std.proofs.Common.{if◌then◌else◌, ◌≡◌, Bool, true, false, ◌&&◌, List, refl, sym, Option, Some, None, inl, inr}
 use Rattle.lv_ast.specs.declared.expr.Path.{Path}
 use Rattle.lv_ast.specs.Names.{has_no_steps}
-use Rattle.lv_source.specs.Names.{Declared, Names, Here, Sort, is_constant_sort}
+use Rattle.lv_source.specs.Names.{Declared, Names, is_constant_sort}
 use Rattle.lv_source.specs.Constants.{early_or_none}
 use Rattle.lv_source.specs.NodeRules.{is_early}
 use Rattle.lv_const.specs.declared.constant.Const.{Const}

@@ -1,14 +1,14 @@
 -- Names that have a value, and the constants that are declared before a place.
-use Rattle.std.proofs.Common.{if◌then◌else◌, ◌≡◌, Bool, true, false, ◌&&◌, List, refl, sym, ◌∙◌, ap, Option, Some, None, inl, inr}
+use Rattle.std.proofs.Common.{if◌then◌else◌, ◌≡◌, Bool, true, false, ◌&&◌, List, refl, sym, Option, Some, None, inl, inr}
 use Rattle.lv_ast.specs.declared.expr.Path.{Path}
 use Rattle.lv_ast.specs.Names.{has_no_steps}
-use Rattle.lv_source.specs.Names.{Declared, Names, Here, Sort, is_constant_sort}
+use Rattle.lv_source.specs.Names.{Declared, Names, is_constant_sort}
 use Rattle.lv_source.specs.Constants.{early_or_none}
 use Rattle.lv_source.specs.NodeRules.{is_early}
 use Rattle.lv_const.specs.declared.constant.Const.{Const}
 use Rattle.lv_const.specs.declared.consts.Entry.{Entry}
 use Rattle.lv_const.specs.Constants.{names_of, declared_of, value_in, entries_here}
-use Rattle.lv_const.specs.Wherever.{AreDeclared, Wherever}
+use Rattle.lv_const.specs.Wherever.{AreDeclared}
 use Rattle.lv_const.proofs.Numbers.{split}
 
 never : (o : Option Declared) → is_early false o ≡ false
@@ -45,6 +45,3 @@ when false o h = refl
 
 pub entries-declared : (es : List Entry) → AreDeclared (names_of es) (entries_here es)
 entries-declared es = record { same = λ p. when (has_no_steps p) (declared_of p.name (value_in es p.name)) (value-declared p (value_in es p.name)) }
-
-pub in-entries : (es : List Entry) (Holds : Here → Type 0) → Wherever (names_of es) Holds → Holds (entries_here es)
-in-entries es Holds h = h.at (entries_here es) (entries-declared es)

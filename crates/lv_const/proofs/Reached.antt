@@ -1,5 +1,5 @@
 -- The value of each kind of node, from those of its operands, at what reaches it.
-use Rattle.std.proofs.Common.{◌≡◌, ℕ, ◌≤◌, ◌<◌, ◌^◌, ◌==◌, max, Bool, true, false, ◌&&◌, [], ◌∷◌, ◌++◌, ap, ◌∙◌, sym, subst, refl, map, arith, Ok, Err, Option, cond, inl, inr, append_assoc}
+use Rattle.std.proofs.Common.{◌≡◌, ℕ, ◌≤◌, ◌<◌, ◌^◌, ◌==◌, max, Bool, true, false, ◌&&◌, [], ◌∷◌, ◌++◌, ap, ◌∙◌, sym, subst, refl, arith, Ok, Err, Option, cond, inl, inr, append_assoc}
 use Rattle.std.specs.Prelude.{IsFalse, IfOk, if◌then◌else◌}
 use Rattle.lv_ast.specs.declared.expr.Path.{Path}
 use Rattle.lv_bits.specs.declared.op.Op.{Op}

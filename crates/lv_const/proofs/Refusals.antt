@@ -1,5 +1,5 @@
 -- From what is told of sites to the faults of the nodes there.
-use Rattle.std.proofs.Common.{if◌then◌else◌, ◌≡◌, ℕ, zero, suc, ◌+◌, ◌<◌, Bool, true, false, not, ◌&&◌, ◌||◌, List, [], ◌∷◌, ◌++◌, ap, ◌∙◌, sym, subst, refl, flat_map, map, Option, None, Some, arith, inl, inr, length, get_or, max}
+use Rattle.std.proofs.Common.{if◌then◌else◌, ◌≡◌, ℕ, zero, suc, ◌+◌, ◌<◌, Bool, true, false, ◌&&◌, List, [], ◌∷◌, ◌++◌, ap, ◌∙◌, sym, subst, refl, flat_map, map, Option, None, Some, arith, inl, inr, length, get_or, max}
 use Rattle.std.specs.List.{All, Contains}
 use Rattle.std.proofs.lemmas.List.Elements.{All-contains, Contains-append_left, Contains-append_right, Contains-append_cases}
 use Rattle.lv_bits.specs.Words.{Bits}
@@ -9,7 +9,7 @@ use Rattle.lv_ast.specs.declared.expr.Expr.TheOpen.{Expr-F}
 use Rattle.lv_source.specs.Names.{Here, Declared, Sort, Input, Net, Variable, Clock, Constant, Index, Other, is_constant_sort, is_clock_sort}
 use Rattle.lv_source.specs.Meaning.{own_width}
 use Rattle.lv_source.specs.Sites.{Site, Spot, Step, Role, Value, walk, spots}
-use Rattle.lv_source.specs.NodeRules.{is_early, is_unreadable, is_name_fault, can_be_read, unknown_name, unfixed_name, not_constant, zero_divisor, out_of_range, clock_in, clock_use}
+use Rattle.lv_source.specs.NodeRules.{is_early, is_unreadable, is_name_fault, unknown_name, unfixed_name, not_constant, zero_divisor, out_of_range, clock_in, clock_use}
 use Rattle.lv_source.specs.Faults.{site_faults}
 use Rattle.lv_source.specs.Legal.{Kind, UnknownName, NotConstant, ClockUse}
 use Rattle.lv_source.specs.Legal as kind

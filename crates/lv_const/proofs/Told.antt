@@ -18,6 +18,21 @@ none-joined f xs ys h k = flat_map-append f xs ys ∙ (ap (λ zs. zs ++ flat_map
 pub both-empty : {X : Type 0} (xs ys : List X) → xs ≡ [] → ys ≡ [] → xs ++ ys ≡ []
 both-empty xs ys h k = ap (λ zs. zs ++ ys) h ∙ k
 
+pub divides-none : Divides []
+divides-none = record { none = refl }
+
+pub divides-node : (s : Site) (ss : List Site) → zero_divisor s ≡ [] → Divides ss → Divides (s ∷ ss)
+divides-node s ss h k = record { none = both-empty (zero_divisor s) (flat_map zero_divisor ss) h k.none }
+
+pub divides-both : (ss ts : List Site) → Divides ss → Divides ts → Divides (ss ++ ts)
+divides-both ss ts h k = record { none = none-joined zero_divisor ss ts h.none k.none }
+
+pub width_in : (w : ℕ) → 1 ≤ w → w ≤ 128 → is_width w ≡ true
+width_in w h k = grind (arith, nat_tests)
+
+pub here : {X : Type 0} (x : X) (xs : List X) → Contains (x ∷ xs) x
+here x xs = (0, omega arith, refl)
+
 module _ (early : Path → Bool) where
   pub sound-none : Sound early []
   sound-none = record { none = refl }
@@ -28,16 +43,6 @@ module _ (early : Path → Bool) where
   pub sound-both : (ss ts : List Site) → Sound early ss → Sound early ts → Sound early (ss ++ ts)
   sound-both ss ts h k = record { none = none-joined (form_faults early) ss ts h.none k.none }
 
-pub divides-none : Divides []
-divides-none = record { none = refl }
-
-pub divides-node : (s : Site) (ss : List Site) → zero_divisor s ≡ [] → Divides ss → Divides (s ∷ ss)
-divides-node s ss h k = record { none = both-empty (zero_divisor s) (flat_map zero_divisor ss) h k.none }
-
-pub divides-both : (ss ts : List Site) → Divides ss → Divides ts → Divides (ss ++ ts)
-divides-both ss ts h k = record { none = none-joined zero_divisor ss ts h.none k.none }
-
-module _ (early : Path → Bool) where
   pub told-here : (s : Site) (ss : List Site) (x : ConstError) → Contains (all_faults early s) x → Told early (s ∷ ss) x
   told-here s ss x h = record { found = Contains-append_left (all_faults early s) (flat_map (all_faults early) ss) x h }
 
@@ -56,18 +61,11 @@ module _ (early : Path → Bool) where
         (Contains-append_right (flat_map (all_faults early) ss) (flat_map (all_faults early) ts) x h.found);
   }
 
-pub width_in : (w : ℕ) → 1 ≤ w → w ≤ 128 → is_width w ≡ true
-width_in w h k = grind (arith, nat_tests)
-
-pub here : {X : Type 0} (x : X) (xs : List X) → Contains (x ∷ xs) x
-here x xs = (0, omega arith, refl)
-
-module _ (early : Path → Bool) where
   pub told-range : (s : Site) (ss : List Site) → (not (is_width s.shown.reading.meaning.width) || is_node_fault s) ≡ true →
       Told early (s ∷ ss) (x.Range (first_place s.shown))
   told-range s ss h =
       let e : out_of_range s ≡ first_place s.shown ∷ [] = ap (λ b. cond b (first_place s.shown ∷ []) []) h in
-      told-here early s ss (x.Range (first_place s.shown)) (Contains-append_left (told_faults early s) (map x.ZeroDivisor (zero_divisor s))
+      told-here s ss (x.Range (first_place s.shown)) (Contains-append_left (told_faults early s) (map x.ZeroDivisor (zero_divisor s))
       (x.Range (first_place s.shown))
       (Contains-append_right (map x.NoValue (no_value early s)) (map x.Range (out_of_range s)) (x.Range (first_place s.shown))
       (subst (λ ps. Contains (map x.Range ps) (x.Range (first_place s.shown))) (sym e) (here (x.Range (first_place s.shown)) []))))
@@ -75,11 +73,11 @@ module _ (early : Path → Bool) where
   pub told-zero : (s : Site) (ss : List Site) (p : ℕ) (ps : List ℕ) → zero_divisor s ≡ p ∷ ps → (q : ℕ) →
       Contains (map x.ZeroDivisor (p ∷ ps)) (x.ZeroDivisor q) → Told early (s ∷ ss) (x.ZeroDivisor q)
   told-zero s ss p ps e q h =
-      told-here early s ss (x.ZeroDivisor q) (Contains-append_right (told_faults early s) (map x.ZeroDivisor (zero_divisor s)) (x.ZeroDivisor q)
+      told-here s ss (x.ZeroDivisor q) (Contains-append_right (told_faults early s) (map x.ZeroDivisor (zero_divisor s)) (x.ZeroDivisor q)
       (subst (λ qs. Contains (map x.ZeroDivisor qs) (x.ZeroDivisor q)) (sym e) h))
 
   pub told-name : (s : Site) (ss : List Site) (p : ℕ) → no_value early s ≡ p ∷ [] → Told early (s ∷ ss) (x.NoValue p)
   told-name s ss p e =
-      told-here early s ss (x.NoValue p) (Contains-append_left (told_faults early s) (map x.ZeroDivisor (zero_divisor s)) (x.NoValue p)
+      told-here s ss (x.NoValue p) (Contains-append_left (told_faults early s) (map x.ZeroDivisor (zero_divisor s)) (x.NoValue p)
       (Contains-append_left (map x.NoValue (no_value early s)) (map x.Range (out_of_range s)) (x.NoValue p)
       (subst (λ ps. Contains (map x.NoValue ps) (x.NoValue p)) (sym e) (here (x.NoValue p) []))))

@@ -1,5 +1,5 @@
 -- What can be wrong at a node of a constant expression, by the width and the sign that reach it, where some constants are declared before.
-use Rattle.std.specs.Prelude.{ℕ, Bool, true, false, if◌then◌else◌, List, [], ◌∷◌, ◌++◌, map}
+use Rattle.std.specs.Prelude.{ℕ, Bool, if◌then◌else◌, List, [], ◌∷◌, ◌++◌, map}
 use Rattle.lv_ast.specs.declared.expr.Path.{Path}
 use Rattle.lv_ast.specs.declared.expr.Expr.TheOpen.{Expr-F}
 use Rattle.lv_const.specs.declared.error.ConstError.{ConstError}

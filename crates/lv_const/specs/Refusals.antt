@@ -1,5 +1,5 @@
 -- What the answers say of the faults of nodes where they stand.
-use Rattle.std.specs.Prelude.{ℕ, ◌≡◌, Bool, true, false, List, [], Contains, flat_map}
+use Rattle.std.specs.Prelude.{ℕ, ◌≡◌, true, false, List, [], Contains, flat_map}
 use Rattle.lv_ast.specs.declared.expr.Path.{Path}
 use Rattle.lv_source.specs.Names.{Here}
 use Rattle.lv_source.specs.Sites.{Spot}

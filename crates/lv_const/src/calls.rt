@@ -1,4 +1,4 @@
-ghost use Rattle.std.specs.Prelude.{◌≡◌, ◌≤◌};
+ghost use Rattle.std.specs.Prelude.{◌≤◌};
 ghost use Rattle.lv_source.specs.Meaning.{own_width};
 ghost use Rattle.lv_const.specs.Constants.{names_of};
 ghost use Rattle.lv_const.specs.Wherever.{Wherever};

@@ -1,5 +1,5 @@
 -- The arms of the functions that go over a tree.
-use Rattle.std.proofs.Common.{sym, ◌∙◌, arith, refl, ◌≤◌, true}
+use Rattle.std.proofs.Common.{sym, ◌∙◌, arith, refl, true}
 use Rattle.lv_const.proofs.Lists.{first}
 use Rattle.lv_const.specs.Constants.{names_of, entries_here}
 use Rattle.lv_const.proofs.Arms as arm

@@ -33,7 +33,8 @@ impl NameTable {
     pub fn add(&mut self, alloc: Global, name: &[u8]) -> Result<(usize, bool), NoMemory>
         ensures number { IfOk result (λ r. r.0 ≡ position_or_len (bytes_eq name.now) (listed self.old)) }
         ensures added { IfOk result (λ r. r.1 ≡ not (list_any (bytes_eq name.now) (listed self.old))) }
-        ensures names { OnOk result (listed self.new ≡ (if list_any (bytes_eq name.now) (listed self.old) then listed self.old else listed self.old ++ name.now ∷ [])) }
+        ensures names { OnOk result (listed self.new ≡
+            (if list_any (bytes_eq name.now) (listed self.old) then listed self.old else listed self.old ++ name.now ∷ [])) }
         ensures kept { OnErr result (listed self.new ≡ listed self.old) }
     {
         let Ok(key) = Vec::from_slice(alloc, name) else {

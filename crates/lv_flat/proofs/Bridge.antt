@@ -90,11 +90,13 @@ module _ (at : At) (clocks : List ℕ) where
   pub source-Assign : (ps : List Piece) (x : Reading) → view_of (record { at = at; clocks = clocks; body = Assign ps x }) ≡ assign_view at clocks (goal_of ps) x
   source-Assign ps x = view_same Continuous _ _ _ _ _ _ [] nothing_done _ (sym (flat-map (λ (a : Aim). a.bits) aim_of ps)) refl refl
 
-  pub source-Comb : (names : Names) (s : Stmt) → view_of (record { at = at; clocks = clocks; body = Comb names s }) ≡ view_by at clocks Combinational (source_done names s)
+  pub source-Comb : (names : Names) (s : Stmt) →
+      view_of (record { at = at; clocks = clocks; body = Comb names s }) ≡ view_by at clocks Combinational (source_done names s)
   source-Comb names s = block_same Combinational (executes names s) (flow names s) (summary names s)
 
   pub source-Clocked : (names : Names) (c : Ident) (s : Stmt) →
-      view_of (record { at = at; clocks = clocks; body = Clocked names c s }) ≡ view_by at clocks (Edge (known (names (alone c.name))).sort c.place) (source_done names s)
+      view_of (record { at = at; clocks = clocks; body = Clocked names c s }) ≡ view_by at clocks (Edge (known (names (alone c.name))).sort c.place)
+      (source_done names s)
   source-Clocked names c s = block_same (Edge (known (names (alone c.name))).sort c.place) (executes names s) (flow names s) (summary names s)
 
 -- ---- flat parts

@@ -72,7 +72,8 @@ done_now g x place = record {
 
 abbrev pub done_later : Goal → Reading → ℕ → Done
 done_later g x place = record {
-  effect = λ s. (let ps : List Place = g.places s.valuation in record s { pending = s.pending ++ record { places = ps; value = assigned s.valuation (bits_in ps) x.meaning } ∷ [] });
+  effect = λ s. (let ps : List Place = g.places s.valuation in record s
+      { pending = s.pending ++ record { places = ps; value = assigned s.valuation (bits_in ps) x.meaning } ∷ [] });
   events = done_event false g x place ∷ [];
   paths = done_summary g x;
 }
@@ -102,7 +103,8 @@ all_by f w m xs =
     (ap all_summaries (sym (map-map (λ (d : Done). d.paths) (each_by f w m) xs)))
 
 picks : (c k : Bool) (a b : Flow) →
-    (if c then (let r : Flow = record { events = a.events ++ b.events; paths = if k then a.paths else b.paths } in r) else either_flow a b).events ≡ a.events ++ b.events
+    (if c then (let r : Flow = record { events = a.events ++ b.events; paths = if k then a.paths else b.paths } in r) else either_flow a b).events ≡
+    a.events ++ b.events
 picks true k a b = refl
 picks false k a b = refl
 
@@ -110,7 +112,8 @@ pub if_by : (x : Reading) (f g : State → State) (w u : Flow) (m n : Summary) �
     done_by (if_of x f g) (if_flow x w u) (if_summary x m n) ≡ done_if x (done_by f w m) (done_by g u n)
 if_by x f g w u m n =
     three _ _ _ _ _ _ refl
-    (ap (λ (zs : List Event). looked x.reads ∷ map seen_of zs) (picks x.constant (is_met nowhere x) w u) ∙ ap (λ (zs : List Seen). looked x.reads ∷ zs) (map-join seen_of w.events u.events))
+    (ap (λ (zs : List Event). looked x.reads ∷ map seen_of zs) (picks x.constant (is_met nowhere x) w u) ∙
+    ap (λ (zs : List Seen). looked x.reads ∷ zs) (map-join seen_of w.events u.events))
     refl
 
 -- an arm, with what its statement is
@@ -126,7 +129,8 @@ arm_events labels w [] = refl
 arm_events labels w (b ∷ bs) = map-join seen_of (w b).events _ ∙ ap (λ (zs : List Seen). map seen_of (w b).events ++ zs) (arm_events labels w bs)
 
 pub case_by : {B : Type 0} (labels : B → List Label) (f : B → State → State) (w : B → Flow) (m : B → Summary) (wild own : Bool) (x : Reading) (arms : List B) →
-    done_by (case_of wild x (map (arm_with labels f) arms)) (case_flow_of wild own x (map (arm_with labels w) arms)) (case_summary_of wild own x (map (arm_with labels m) arms)) ≡
+    done_by (case_of wild x (map (arm_with labels f) arms)) (case_flow_of wild own x (map (arm_with labels w) arms))
+    (case_summary_of wild own x (map (arm_with labels m) arms)) ≡
     done_case wild own x (map (arm_with labels (each_by f w m)) arms)
 case_by labels f w m wild own x arms =
     let each : _ → Done = each_by f w m in
@@ -142,12 +146,15 @@ case_by labels f w m wild own x arms =
 writes_aims : (ps : List Piece) → writes_of ps ≡ flat_map (λ (a : Aim). a.bits) (map aim_of ps)
 writes_aims ps = sym (flat-map (λ (a : Aim). a.bits) aim_of ps)
 
-surely_aims : (ps : List Piece) → writes_of (filter (λ (p : Piece). all_constant p.choices) ps) ≡ flat_map (λ (a : Aim). a.bits) (filter (λ (a : Aim). a.sure) (map aim_of ps))
-surely_aims ps = writes_aims (filter (λ (p : Piece). all_constant p.choices) ps) ∙ ap (flat_map (λ (a : Aim). a.bits)) (sym (filter-map (λ (a : Aim). a.sure) aim_of ps))
+surely_aims : (ps : List Piece) → writes_of (filter (λ (p : Piece). all_constant p.choices) ps) ≡ flat_map (λ (a : Aim). a.bits)
+    (filter (λ (a : Aim). a.sure) (map aim_of ps))
+surely_aims ps = writes_aims (filter (λ (p : Piece). all_constant p.choices) ps) ∙
+    ap (flat_map (λ (a : Aim). a.bits)) (sym (filter-map (λ (a : Aim). a.sure) aim_of ps))
 
 pub summary_by : (ps : List Piece) (x : Reading) → write_summary ps x ≡ done_summary (goal_of ps) x
 summary_by ps x =
-    two (λ (a b : List Bit). let s : Summary = record { written = a; sure = b; exposed = x.reads ++ flat_map (λ (p : Piece). index_reads p.choices) ps } in s) _ _ _ _
+    two (λ (a b : List Bit). let s : Summary =
+    record { written = a; sure = b; exposed = x.reads ++ flat_map (λ (p : Piece). index_reads p.choices) ps } in s) _ _ _ _
     (writes_aims ps) (surely_aims ps)
 
 pub now_by : (ps : List Piece) (x : Reading) (place : ℕ) →
@@ -169,7 +176,8 @@ goals f g p q r s h k l =
     ap (λ (z : List Aim). let a : Goal = record { aims = z; places = p; reads = r } in a) h ∙
     two (λ (x : Valuation → List Place) (y : List Bit). let a : Goal = record { aims = g; places = x; reads = y } in a) _ _ _ _ k l
 
-flat_over : {B : Type 0} (f : Piece → B) (pss : List (List Piece)) → map f (flat_map (λ (ps : List Piece). ps) pss) ≡ flat_map (λ (ps : List Piece). map f ps) pss
+flat_over : {B : Type 0} (f : Piece → B) (pss : List (List Piece)) →
+    map f (flat_map (λ (ps : List Piece). ps) pss) ≡ flat_map (λ (ps : List Piece). map f ps) pss
 flat_over f [] = refl
 flat_over f (ps ∷ pss) = map-join f ps _ ∙ ap (λ (zs : List _). map f ps ++ zs) (flat_over f pss)
 
@@ -183,7 +191,8 @@ goal_all pss =
 
 aim_same : (p q : Piece) → known p.declared ≡ known q.declared → p.path.place ≡ q.path.place → AllAlike p.choices q.choices → aim_of p ≡ aim_of q
 aim_same p q h k l =
-    two (λ (d : Declared) (n : ℕ). let a : Aim = record { sort = d.sort; bits = bits_named d p.choices; sure = all_constant p.choices; place = n } in a) _ _ _ _ h k ∙
+    two (λ (d : Declared) (n : ℕ). let a : Aim = record { sort = d.sort; bits = bits_named d p.choices; sure = all_constant p.choices; place = n } in a) _ _
+    _ _ h k ∙
     two (λ (bs : List Bit) (b : Bool). let a : Aim = record { sort = (known q.declared).sort; bits = bs; sure = b; place = q.path.place } in a) _ _ _ _
     (named_bits_same (known q.declared) p.choices q.choices l) (constant_same p.choices q.choices l)
 
@@ -193,7 +202,8 @@ place_alike v p q h l =
     ap (λ (z : Place). aimed (is_signal_sort (known q.declared).sort) z) (place_same (known q.declared) p.choices q.choices l v)
 
 -- a name with selects that name the same bits
-pub goal_one : (p q : Piece) → known p.declared ≡ known q.declared → p.path.place ≡ q.path.place → AllAlike p.choices q.choices → goal_of (p ∷ []) ≡ goal_of (q ∷ [])
+pub goal_one : (p q : Piece) → known p.declared ≡ known q.declared → p.path.place ≡ q.path.place → AllAlike p.choices q.choices →
+    goal_of (p ∷ []) ≡ goal_of (q ∷ [])
 goal_one p q h k l =
     goals _ _ _ _ _ _
     (ap (λ (a : Aim). a ∷ []) (aim_same p q h k l))

@@ -41,7 +41,8 @@ module _ (S : Signals) where
   unfolding executes
   executes-Case wild x arms st = ap (λ (f : Effect). f st) (fold.fold_stmt-Case Effect (Arm Effect) (effect_step S) (arm_step S) wild x arms)
 
-  pub executes-Now : (target : FlatTarget) (x : FlatExpr) (place : ℕ) (st : State) → executes S (b.Now target x place) st ≡ now_of (pieces S target) (reading S x) st
+  pub executes-Now : (target : FlatTarget) (x : FlatExpr) (place : ℕ) (st : State) →
+      executes S (b.Now target x place) st ≡ now_of (pieces S target) (reading S x) st
   unfolding executes
   executes-Now target x place st = refl
 

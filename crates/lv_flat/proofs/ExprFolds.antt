@@ -30,7 +30,8 @@ module _ (M C : Type 0) (f : FlatExpr-F M C → M) (g : FlatSelect-F M C → C) 
 
   pub fold_expr-roll : (x : FlatExpr-F FlatExpr FlatSelect) →
       fold_expr M C f g (roll-FlatExpr x) ≡ f (map-FlatExpr FlatExpr FlatSelect M C (fold_expr M C f g) (fold_select M C f g) x)
-  unfolding roll-FlatExpr shape-the_row-FlatSelect-0 hidden-the_row-FlatSelect-0 shown-the_row-FlatSelect-0 shape-the_row-FlatExpr-1 hidden-the_row-FlatExpr-1 denote.Hole.Carrier.hidden denote.Hole.Carrier.roll
+  unfolding roll-FlatExpr shape-the_row-FlatSelect-0 hidden-the_row-FlatSelect-0 shown-the_row-FlatSelect-0 shape-the_row-FlatExpr-1
+      hidden-the_row-FlatExpr-1 denote.Hole.Carrier.hidden denote.Hole.Carrier.roll
   fold_expr-roll (FlatExpr-F.Lit l) = refl
   fold_expr-roll (FlatExpr-F.Const c ss) = ap (λ ys. f (FlatExpr-F.Const c ys)) (selects ss)
   fold_expr-roll (FlatExpr-F.Signal k ss) = ap (λ ys. f (FlatExpr-F.Signal k ys)) (selects ss)
@@ -67,7 +68,8 @@ module _ (M C : Type 0) (f : FlatExpr-F M C → M) (g : FlatSelect-F M C → C) 
   pub fold_expr-Rem : (a b : FlatExpr) → fold_expr M C f g (e.Rem a b) ≡ f (FlatExpr-F.Rem (fold_expr M C f g a) (fold_expr M C f g b))
   fold_expr-Rem a b = ap (fold_expr M C f g) (sym (rolls-Rem a b)) ∙ fold_expr-roll (FlatExpr-F.Rem a b)
 
-  pub fold_expr-Cond : (c a b : FlatExpr) → fold_expr M C f g (e.Cond c a b) ≡ f (FlatExpr-F.Cond (fold_expr M C f g c) (fold_expr M C f g a) (fold_expr M C f g b))
+  pub fold_expr-Cond : (c a b : FlatExpr) →
+      fold_expr M C f g (e.Cond c a b) ≡ f (FlatExpr-F.Cond (fold_expr M C f g c) (fold_expr M C f g a) (fold_expr M C f g b))
   fold_expr-Cond c a b = ap (fold_expr M C f g) (sym (rolls-Cond c a b)) ∙ fold_expr-roll (FlatExpr-F.Cond c a b)
 
   pub fold_expr-Cat : (es : List FlatExpr) → fold_expr M C f g (e.Cat es) ≡ f (FlatExpr-F.Cat (map (fold_expr M C f g) es))

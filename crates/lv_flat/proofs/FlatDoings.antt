@@ -29,7 +29,8 @@ module _ (S : Signals) where
 
   pub flat-Block : (body : List FlatStmt) → flat_done (b.Block body) ≡ done_all (map flat_done body)
   flat-Block body =
-      by_same _ _ _ _ _ _ (fun_ext (λ st. f.executes-Block S body st)) (f.flow-Block S body) (f.summary-Block S body) ∙ all_by (executes S) (flow S) (summary S) body
+      by_same _ _ _ _ _ _ (fun_ext (λ st. f.executes-Block S body st)) (f.flow-Block S body) (f.summary-Block S body) ∙
+      all_by (executes S) (flow S) (summary S) body
 
   pub flat-If : (c : FlatExpr) (s : FlatStmt) → flat_done (b.If c s None) ≡ done_if (reading S c) (flat_done s) done_null
   flat-If c s =
@@ -55,7 +56,8 @@ module _ (S : Signals) where
       by_same _ _ _ _ _ _ (fun_ext (λ st. f.executes-Now S target x place st)) (f.flow-Now S target x place) (f.summary-Now S target x place) ∙
       now_by (pieces S target) (reading S x) place
 
-  pub flat-Later : (target : FlatTarget) (x : FlatExpr) (place : ℕ) → flat_done (b.Later target x place) ≡ done_later (goal_of (pieces S target)) (reading S x) place
+  pub flat-Later : (target : FlatTarget) (x : FlatExpr) (place : ℕ) →
+      flat_done (b.Later target x place) ≡ done_later (goal_of (pieces S target)) (reading S x) place
   flat-Later target x place =
       by_same _ _ _ _ _ _ (fun_ext (λ st. f.executes-Later S target x place st)) (f.flow-Later S target x place) (f.summary-Later S target x place) ∙
       later_by (pieces S target) (reading S x) place

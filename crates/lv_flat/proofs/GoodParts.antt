@@ -33,7 +33,8 @@ module _ (S : Signals) where
   good-If_else c s t = fold.fold_stmt-If_else Bool Bool (good_step S) (good_arm S) c s t
 
   pub good-Case : (wild : Bool) (x : FlatExpr) (arms : List FlatArm) →
-      good_stmt S (b.Case wild x arms) ≡ (is_good S x && list_all (λ (x : Bool). x) (map (λ (a : FlatArm). list_all (is_good S) a.labels && good_stmt S a.body) arms))
+      good_stmt S (b.Case wild x arms) ≡ (is_good S x && list_all (λ (x : Bool). x)
+      (map (λ (a : FlatArm). list_all (is_good S) a.labels && good_stmt S a.body) arms))
   unfolding good_stmt
   good-Case wild x arms = fold.fold_stmt-Case Bool Bool (good_step S) (good_arm S) wild x arms
 

@@ -43,9 +43,11 @@ repeated_by n k bs rs = record {
   reads = bs ++ flat_map (λ r. r.reads) rs;
 }
 
-repeats : (names : Names) (count : ℕ) (n : Reading) (rs : List Reading) → IsNumber n count → read_step names (Expr-F.Rep (number count) rs) ≡ read_step names (Expr-F.Rep n rs)
+repeats : (names : Names) (count : ℕ) (n : Reading) (rs : List Reading) → IsNumber n count →
+    read_step names (Expr-F.Rep (number count) rs) ≡ read_step names (Expr-F.Rep n rs)
 repeats names count n rs h =
-    ap (λ (z : ℕ). repeated_by z true [] rs) (sym h.value) ∙ two (λ (k : Bool) (bs : List Bit). repeated_by (own_value n.meaning nowhere) k bs rs) _ _ _ _ (sym h.constant) (sym h.reads)
+    ap (λ (z : ℕ). repeated_by z true [] rs) (sym h.value) ∙
+    two (λ (k : Bool) (bs : List Bit). repeated_by (own_value n.meaning nowhere) k bs rs) _ _ _ _ (sym h.constant) (sym h.reads)
 
 module _ (S : Signals) where
   abbrev pub picked : List FlatSelect → List Choice
@@ -57,20 +59,24 @@ module _ (S : Signals) where
   pub alike-Part : (left right : ℕ) (a b : Reading) → IsNumber a left → IsNumber b right → Alike (judge_select S (s.Part left right)).choice (Select-F.Part a b)
   alike-Part left right a b h k = rw j.judge_select-Part (same-number a left h, same-number b right k)
 
-  pub alike-Up : (a : FlatExpr) (width : ℕ) (r w : Reading) → reading S a ≡ r → IsNumber w width → Alike (judge_select S (s.Up a width)).choice (Select-F.Up r w)
+  pub alike-Up : (a : FlatExpr) (width : ℕ) (r w : Reading) → reading S a ≡ r → IsNumber w width →
+      Alike (judge_select S (s.Up a width)).choice (Select-F.Up r w)
   alike-Up a width r w h k = rw j.judge_select-Up (h, same-number w width k)
 
-  pub alike-Down : (a : FlatExpr) (width : ℕ) (r w : Reading) → reading S a ≡ r → IsNumber w width → Alike (judge_select S (s.Down a width)).choice (Select-F.Down r w)
+  pub alike-Down : (a : FlatExpr) (width : ℕ) (r w : Reading) → reading S a ≡ r → IsNumber w width →
+      Alike (judge_select S (s.Down a width)).choice (Select-F.Down r w)
   alike-Down a width r w h k = rw j.judge_select-Down (h, same-number w width k)
 
   module _ (names : Names) where
     pub alike-Lit : (l : Literal) → reading S (e.Lit l) ≡ read_step names (Expr-F.Lit l)
     alike-Lit l = ap (λ (x : Judged). x.reading) (j.judge-Lit S l)
 
-    pub alike-Const : (c : Const) (ss : List FlatSelect) (path : Path) (name : Name) (cs : List Choice) → known (names path) ≡ constant_of name c → AllAlike (picked ss) cs →
+    pub alike-Const : (c : Const) (ss : List FlatSelect) (path : Path) (name : Name) (cs : List Choice) → known (names path) ≡ constant_of name c →
+        AllAlike (picked ss) cs →
         reading S (e.Const c ss) ≡ read_step names (Expr-F.Name path cs)
     alike-Const c ss path name cs h k =
-        ap (λ (x : Judged). x.reading) (j.judge-Const S c ss) ∙ named_same (constant_of [] c) (picked ss) cs k ∙ constant-alike c name cs ∙ ap (λ (d : Declared). named d cs) (sym h)
+        ap (λ (x : Judged). x.reading) (j.judge-Const S c ss) ∙ named_same (constant_of [] c) (picked ss) cs k ∙ constant-alike c name cs ∙
+        ap (λ (d : Declared). named d cs) (sym h)
 
     pub alike-Signal : (n : ℕ) (ss : List FlatSelect) (path : Path) (cs : List Choice) → known (names path) ≡ signal_at S n → AllAlike (picked ss) cs →
         reading S (e.Signal n ss) ≡ read_step names (Expr-F.Name path cs)
@@ -80,7 +86,8 @@ module _ (S : Signals) where
     pub alike-Un : (op : Op) (a : FlatExpr) (r : Reading) → reading S a ≡ r → reading S (e.Un op a) ≡ read_step names (Expr-F.Un op r)
     alike-Un op a r h = ap (λ (x : Judged). x.reading) (j.judge-Un S op a) ∙ ap (λ (z : Reading). read_step names (Expr-F.Un op z)) h
 
-    pub alike-Bin : (op : Op) (a b : FlatExpr) (r t : Reading) → reading S a ≡ r → reading S b ≡ t → reading S (e.Bin op a b) ≡ read_step names (Expr-F.Bin op r t)
+    pub alike-Bin : (op : Op) (a b : FlatExpr) (r t : Reading) → reading S a ≡ r → reading S b ≡ t →
+        reading S (e.Bin op a b) ≡ read_step names (Expr-F.Bin op r t)
     alike-Bin op a b r t h k = ap (λ (x : Judged). x.reading) (j.judge-Bin S op a b) ∙ two (λ (y z : Reading). read_step names (Expr-F.Bin op y z)) _ _ _ _ h k
 
     pub alike-Div : (a b : FlatExpr) (r t : Reading) → reading S a ≡ r → reading S b ≡ t → reading S (e.Div a b) ≡ read_step names (Expr-F.Div r t)
@@ -97,7 +104,8 @@ module _ (S : Signals) where
 
     pub alike-Cat : (es : List FlatExpr) (rs : List Reading) → map (reading S) es ≡ rs → reading S (e.Cat es) ≡ read_step names (Expr-F.Cat rs)
     alike-Cat es rs h =
-        ap (λ (x : Judged). x.reading) (j.judge-Cat S es) ∙ ap (λ (zs : List Reading). read_step names (Expr-F.Cat zs)) (map-map (λ (x : Judged). x.reading) (judge S) es ∙ h)
+        ap (λ (x : Judged). x.reading) (j.judge-Cat S es) ∙
+        ap (λ (zs : List Reading). read_step names (Expr-F.Cat zs)) (map-map (λ (x : Judged). x.reading) (judge S) es ∙ h)
 
     pub alike-Rep : (count : ℕ) (es : List FlatExpr) (n : Reading) (rs : List Reading) → IsNumber n count → map (reading S) es ≡ rs →
         reading S (e.Rep count es) ≡ read_step names (Expr-F.Rep n rs)

@@ -82,7 +82,8 @@ module _ (D : Declared) where
   element_same : (b : Bounds) (z : ℤ) (cs ds : List Choice) → AllAlike cs ds → (v : Valuation) → element D b z (map meant cs) v ≡ element D b z (map meant ds) v
   element_same b (negsuc i) cs ds h v = ap nowhere_place (bits_same cs ds h v)
   element_same b (pos i) cs ds h v =
-      ap (λ (bs : List (Option ℕ)). if within (low b) (high b) i then (let p : Place = record { name = at_index D.path (decimal i); bits = bs } in p) else nowhere_place bs) (bits_same cs ds h v)
+      ap (λ (bs : List (Option ℕ)). if within (low b)
+      (high b) i then (let p : Place = record { name = at_index D.path (decimal i); bits = bs } in p) else nowhere_place bs) (bits_same cs ds h v)
 
   placed : (b : Option Bounds) (cs ds : List Choice) → AllAlike cs ds → (v : Valuation) → place_by b D (map meant cs) v ≡ place_by b D (map meant ds) v
   placed None cs ds h v = ap (λ (bs : List (Option ℕ)). let p : Place = record { name = D.path; bits = bs } in p) (bits_same cs ds h v)
@@ -94,7 +95,8 @@ module _ (D : Declared) where
   pub place_same : (cs ds : List Choice) → AllAlike cs ds → (v : Valuation) → place_of D (map meant cs) v ≡ place_of D (map meant ds) v
   place_same cs ds h v = placed D.array cs ds h v
 
-  rest_same : (b : Option Bounds) (cs ds : List Choice) → AllAlike cs ds → (v : Valuation) → bits_of D (bit_selects b (map meant cs)) v ≡ bits_of D (bit_selects b (map meant ds)) v
+  rest_same : (b : Option Bounds) (cs ds : List Choice) → AllAlike cs ds → (v : Valuation) →
+      bits_of D (bit_selects b (map meant cs)) v ≡ bits_of D (bit_selects b (map meant ds)) v
   rest_same None cs ds h v = bits_same cs ds h v
   rest_same (Some b) [] [] h v = refl
   rest_same (Some b) [] (d ∷ ds) h v = absurd h
@@ -122,12 +124,17 @@ module _ (D : Declared) where
   -- a name by what its selects give
   abbrev named_by : List (Option ℕ) → Bool → (Valuation → Place) → Bool → List Bit → Reading
   named_by bits nil place constant reads =
-      record { meaning = plain (length bits) (nil && D.signed) (λ v. read (held D.sort v) (place v)); constant = is_constant_sort D.sort && constant; reads = reads }
+      record {
+        meaning = plain (length bits) (nil && D.signed) (λ v. read (held D.sort v) (place v));
+        constant = is_constant_sort D.sort && constant;
+        reads = reads;
+      }
 
   five : (a b : List (Option ℕ)) (k l : Bool) (p q : Valuation → Place) (m n : Bool) (r s : List Bit) → a ≡ b → k ≡ l → p ≡ q → m ≡ n → r ≡ s →
       named_by a k p m r ≡ named_by b l q n s
   five a b k l p q m n r s e f g h i =
-      ap (λ z. named_by z k p m r) e ∙ ap (λ z. named_by b z p m r) f ∙ ap (λ z. named_by b l z m r) g ∙ ap (λ z. named_by b l q z r) h ∙ ap (λ z. named_by b l q n z) i
+      ap (λ z. named_by z k p m r) e ∙ ap (λ z. named_by b z p m r) f ∙ ap (λ z. named_by b l z m r) g ∙ ap (λ z. named_by b l q z r) h ∙
+      ap (λ z. named_by b l q n z) i
 
   pub named_same : (cs ds : List Choice) → AllAlike cs ds → named D cs ≡ named D ds
   named_same cs ds h =

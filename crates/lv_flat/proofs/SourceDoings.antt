@@ -32,9 +32,12 @@ module _ (names : Names) where
   unfolding executes flow summary
   source-Block name body =
       by_same _ _ _ _ _ _
-      (ap (λ (f : Effect). f names) (fold.fold_stmt-Block Effect (ArmOf Effect) effect_step arm_step name body) ∙ fun_ext (λ st. ap (λ fs. one_by_one fs st) (map-map (λ (f : Effect). f names) _ body)))
-      (ap (λ (f : Flows). f names) (fold.fold_stmt-Block Flows (ArmOf Flows) flow_step arm_step name body) ∙ ap all_flows (map-map (λ (f : Flows). f names) _ body))
-      (ap (λ (f : Summaries). f names) (fold.fold_stmt-Block Summaries (ArmOf Summaries) summary_step arm_step name body) ∙ ap all_summaries (map-map (λ (f : Summaries). f names) _ body)) ∙
+      (ap (λ (f : Effect). f names) (fold.fold_stmt-Block Effect (ArmOf Effect) effect_step arm_step name body) ∙
+      fun_ext (λ st. ap (λ fs. one_by_one fs st) (map-map (λ (f : Effect). f names) _ body)))
+      (ap (λ (f : Flows). f names) (fold.fold_stmt-Block Flows (ArmOf Flows) flow_step arm_step name body) ∙
+      ap all_flows (map-map (λ (f : Flows). f names) _ body))
+      (ap (λ (f : Summaries). f names) (fold.fold_stmt-Block Summaries (ArmOf Summaries) summary_step arm_step name body) ∙
+      ap all_summaries (map-map (λ (f : Summaries). f names) _ body)) ∙
       all_by (executes names) (flow names) (summary names) body
 
   pub source-If : (c : Expr) (s : Stmt) → source_done (b.If c s None) ≡ done_if (read_expr names c) (source_done s) done_null
@@ -63,22 +66,28 @@ module _ (names : Names) where
   unfolding executes flow summary
   source-Case wild x arms =
       by_same _ _ _ _ _ _
-      (ap (λ (f : Effect). f names) (fold.fold_stmt-Case Effect (ArmOf Effect) effect_step arm_step wild x arms) ∙ fun_ext (λ st. ap (λ as'. case_of wild (read_expr names x) as' st) (map-map (read_arm names) _ arms)))
-      (ap (λ (f : Flows). f names) (fold.fold_stmt-Case Flows (ArmOf Flows) flow_step arm_step wild x arms) ∙ ap (case_flow_of wild (is_extended x) (read_expr names x)) (map-map (read_arm names) _ arms))
-      (ap (λ (f : Summaries). f names) (fold.fold_stmt-Case Summaries (ArmOf Summaries) summary_step arm_step wild x arms) ∙ ap (case_summary_of wild (is_extended x) (read_expr names x)) (map-map (read_arm names) _ arms)) ∙
+      (ap (λ (f : Effect). f names) (fold.fold_stmt-Case Effect (ArmOf Effect) effect_step arm_step wild x arms) ∙
+      fun_ext (λ st. ap (λ as'. case_of wild (read_expr names x) as' st) (map-map (read_arm names) _ arms)))
+      (ap (λ (f : Flows). f names) (fold.fold_stmt-Case Flows (ArmOf Flows) flow_step arm_step wild x arms) ∙
+      ap (case_flow_of wild (is_extended x) (read_expr names x)) (map-map (read_arm names) _ arms))
+      (ap (λ (f : Summaries). f names) (fold.fold_stmt-Case Summaries (ArmOf Summaries) summary_step arm_step wild x arms) ∙
+      ap (case_summary_of wild (is_extended x) (read_expr names x)) (map-map (read_arm names) _ arms)) ∙
       case_by arm_labels_of (λ a. executes names a.body) (λ a. flow names a.body) (λ a. summary names a.body) wild (is_extended x) (read_expr names x) arms
 
-  pub source-Now : (target : Target) (x : Expr) (place : ℕ) → source_done (b.Now target x place) ≡ done_now (goal_of (pieces names target)) (read_expr names x) place
+  pub source-Now : (target : Target) (x : Expr) (place : ℕ) →
+      source_done (b.Now target x place) ≡ done_now (goal_of (pieces names target)) (read_expr names x) place
   unfolding executes flow summary
   source-Now target x place = now_by (pieces names target) (read_expr names x) place
 
-  pub source-Later : (target : Target) (x : Expr) (place : ℕ) → source_done (b.Later target x place) ≡ done_later (goal_of (pieces names target)) (read_expr names x) place
+  pub source-Later : (target : Target) (x : Expr) (place : ℕ) →
+      source_done (b.Later target x place) ≡ done_later (goal_of (pieces names target)) (read_expr names x) place
   unfolding executes flow summary
   source-Later target x place = later_by (pieces names target) (read_expr names x) place
 
 -- a loop is its turns, one after another
 pub source-Loop : (names : Names) (index : Ident) (start test : Expr) (again : Ident) (next : Expr) (s : Stmt) →
-    source_done names (b.Loop index start test again next s) ≡ done_all (map (λ k. source_done (with_index names index.name k) s) (turns names index.name start test next))
+    source_done names (b.Loop index start test again next s) ≡ done_all
+    (map (λ k. source_done (with_index names index.name k) s) (turns names index.name start test next))
 unfolding executes flow summary
 source-Loop names index start test again next s =
     let at : ℕ → Names = with_index names index.name in

@@ -24,7 +24,8 @@ module _ (M : Type 0) (f : FlatTarget-F M → M) where
   fold_target-Signal name ss = refl
 
   pub fold_target-Cat : (ts : List FlatTarget) → fold_target M f (t.Cat ts) ≡ f (FlatTarget-F.Cat (map (fold_target M f) ts))
-  fold_target-Cat ts = ap (λ ys. f (FlatTarget-F.Cat ys)) (target-items (hidden-the_row-FlatTarget-0 ts) ∙ ap (λ ys. map (fold_target M f) ys) (items_hidden-the_row-FlatTarget-0 ts))
+  fold_target-Cat ts = ap (λ ys. f (FlatTarget-F.Cat ys))
+      (target-items (hidden-the_row-FlatTarget-0 ts) ∙ ap (λ ys. map (fold_target M f) ys) (items_hidden-the_row-FlatTarget-0 ts))
 
 module _ (M A : Type 0) (f : FlatStmt-F M A → M) (g : FlatArm-F M A → A) where
   abbrev pub fold_arm : FlatArm → A
@@ -42,18 +43,24 @@ module _ (M A : Type 0) (f : FlatStmt-F M A → M) (g : FlatArm-F M A → A) whe
   fold_stmt-Null = refl
 
   pub fold_stmt-Block : (ss : List FlatStmt) → fold_stmt M A f g (b.Block ss) ≡ f (FlatStmt-F.Block (map (fold_stmt M A f g) ss))
-  fold_stmt-Block ss = ap (λ ys. f (FlatStmt-F.Block ys)) (stmt-items (hidden-the_row-FlatStmt-0 ss) ∙ ap (λ ys. map (fold_stmt M A f g) ys) (items_hidden-the_row-FlatStmt-0 ss))
+  fold_stmt-Block ss = ap (λ ys. f (FlatStmt-F.Block ys))
+      (stmt-items (hidden-the_row-FlatStmt-0 ss) ∙ ap (λ ys. map (fold_stmt M A f g) ys) (items_hidden-the_row-FlatStmt-0 ss))
 
   pub fold_stmt-If : (c : FlatExpr) (s : FlatStmt) → fold_stmt M A f g (b.If c s None) ≡ f (FlatStmt-F.If c (fold_stmt M A f g s) None)
-  unfolding shape-the_row-FlatStmt-0 hidden-the_row-FlatStmt-0 shown-the_row-FlatStmt-0 shape-the_row-FlatStmt-1 hidden-the_row-FlatStmt-1 denote.Hole.Carrier.hidden
+  unfolding shape-the_row-FlatStmt-0 hidden-the_row-FlatStmt-0 shown-the_row-FlatStmt-0 shape-the_row-FlatStmt-1 hidden-the_row-FlatStmt-1
+      denote.Hole.Carrier.hidden
   fold_stmt-If c s = refl
 
-  pub fold_stmt-If_else : (c : FlatExpr) (s t : FlatStmt) → fold_stmt M A f g (b.If c s (Some t)) ≡ f (FlatStmt-F.If c (fold_stmt M A f g s) (Some (fold_stmt M A f g t)))
-  unfolding shape-the_row-FlatStmt-0 hidden-the_row-FlatStmt-0 shown-the_row-FlatStmt-0 shape-the_row-FlatStmt-1 hidden-the_row-FlatStmt-1 denote.Hole.Carrier.hidden
+  pub fold_stmt-If_else : (c : FlatExpr) (s t : FlatStmt) →
+      fold_stmt M A f g (b.If c s (Some t)) ≡ f (FlatStmt-F.If c (fold_stmt M A f g s) (Some (fold_stmt M A f g t)))
+  unfolding shape-the_row-FlatStmt-0 hidden-the_row-FlatStmt-0 shown-the_row-FlatStmt-0 shape-the_row-FlatStmt-1 hidden-the_row-FlatStmt-1
+      denote.Hole.Carrier.hidden
   fold_stmt-If_else c s t = refl
 
-  pub fold_stmt-Case : (wild : Bool) (x : FlatExpr) (arms : List FlatArm) → fold_stmt M A f g (b.Case wild x arms) ≡ f (FlatStmt-F.Case wild x (map fold_arm arms))
-  fold_stmt-Case wild x arms = ap (λ ys. f (FlatStmt-F.Case wild x ys)) (arm-items (hidden-the_row-FlatArm-2 arms) ∙ ap (λ ys. map fold_arm ys) (items_hidden-the_row-FlatArm-2 arms))
+  pub fold_stmt-Case : (wild : Bool) (x : FlatExpr) (arms : List FlatArm) →
+      fold_stmt M A f g (b.Case wild x arms) ≡ f (FlatStmt-F.Case wild x (map fold_arm arms))
+  fold_stmt-Case wild x arms = ap (λ ys. f (FlatStmt-F.Case wild x ys))
+      (arm-items (hidden-the_row-FlatArm-2 arms) ∙ ap (λ ys. map fold_arm ys) (items_hidden-the_row-FlatArm-2 arms))
 
   pub fold_stmt-Now : (target : FlatTarget) (x : FlatExpr) (place : ℕ) → fold_stmt M A f g (b.Now target x place) ≡ f (FlatStmt-F.Now target x place)
   fold_stmt-Now target x place = refl

@@ -50,11 +50,13 @@ again_more [] n h k = refl
 again_more (m ∷ ms) n h k =
     let a : flat_map (told m) ms ≡ [] = none_left (flat_map (told m) ms) (modules_again ms) h in
     let b : modules_again ms ≡ [] = none_right (flat_map (told m) ms) (modules_again ms) h in
-    let c : told m n ++ [] ≡ [] = ap (λ z. map at_top (place_if z n.name.place) ++ []) (or_left (bytes_eq n.name.name m.name.name) (has ms (module_name n)) k) in
+    let c : told m n ++ [] ≡ [] = ap (λ z. map at_top (place_if z n.name.place) ++ [])
+    (or_left (bytes_eq n.name.name m.name.name) (has ms (module_name n)) k) in
     let d : modules_again (ms ++ n ∷ []) ≡ [] = again_more ms n b (or_right (bytes_eq n.name.name m.name.name) (has ms (module_name n)) k) in
     two (λ (x y : List At). x ++ y) _ _ _ _ (none-joined (told m) ms (n ∷ []) a c) d
 
-pub again_told : (ms : List Module) (n : Module) (rest : List Module) → has ms (module_name n) ≡ true → Contains (modules_again (ms ++ n ∷ rest)) (at_top n.name.place)
+pub again_told : (ms : List Module) (n : Module) (rest : List Module) → has ms (module_name n) ≡ true →
+    Contains (modules_again (ms ++ n ∷ rest)) (at_top n.name.place)
 again_told [] n rest k = absurd (cc)
 again_told (m ∷ ms) n rest k = elim (decide (bytes_eq n.name.name m.name.name)) [
   | inl e ↦
@@ -70,15 +72,16 @@ again_told (m ∷ ms) n rest k = elim (decide (bytes_eq n.name.name m.name.name)
 
 -- ---- keys
 
-any_over : {A : Type 0} (name : Name) (f : A → Name) (xs : List A) → list_any (bytes_eq name) (map f xs) ≡ list_any (λ x. bytes_eq name (f x)) xs
+pub any_over : {A : Type 0} (name : Name) (f : A → Name) (xs : List A) → list_any (bytes_eq name) (map f xs) ≡ list_any (λ x. bytes_eq name (f x)) xs
 any_over name f [] = refl
 any_over name f (x ∷ xs) = ap (λ z. bytes_eq name (f x) || z) (any_over name f xs)
 
-first_over : {A : Type 0} (name : Name) (f : A → Name) (xs : List A) → position_or_len (bytes_eq name) (map f xs) ≡ position_or_len (λ x. bytes_eq name (f x)) xs
+pub first_over : {A : Type 0} (name : Name) (f : A → Name) (xs : List A) →
+    position_or_len (bytes_eq name) (map f xs) ≡ position_or_len (λ x. bytes_eq name (f x)) xs
 first_over name f [] = refl
 first_over name f (x ∷ xs) = ap (λ z. cond (not (bytes_eq name (f x))) (1 + z) 0) (first_over name f xs)
 
-len_over : {A B : Type 0} (f : A → B) (xs : List A) → length (map f xs) ≡ length xs
+pub len_over : {A B : Type 0} (f : A → B) (xs : List A) → length (map f xs) ≡ length xs
 len_over f [] = refl
 len_over f (x ∷ xs) = ap suc (len_over f xs)
 
@@ -97,7 +100,8 @@ module _ {K : Type 0} (items : K → Name) (ks : List K) (ms : List Module) (nam
 
   found : module_in ms name ≡ slice_get ms (position_or_len test ks)
   found =
-      ap (λ (t : Module → Bool). find t ms) (fun_ext (λ m. turned m.name.name name)) ∙ find_at (λ m. bytes_eq name (module_name m)) ms ∙ ap (slice_get ms) (sym first_same)
+      ap (λ (t : Module → Bool). find t ms) (fun_ext (λ m. turned m.name.name name)) ∙ find_at (λ m. bytes_eq name (module_name m)) ms ∙
+      ap (slice_get ms) (sym first_same)
 
   pick : (k : Bool) (i j : ℕ) → cond k (Some i) None ≡ Some j → i ≡ j
   pick true i j e = cc

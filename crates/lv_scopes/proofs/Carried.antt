@@ -81,9 +81,11 @@ module _ (names : Names) where
   join_moved : (xs ys : List Site) → map moved xs ++ map moved ys ≡ map moved (xs ++ ys)
   join_moved xs ys = sym (map-join moved xs ys)
 
-  flat_moved : (role : Role) (fixed : Option ℕ) (rs : List Walk) → flat_map (own_sites role fixed) (map renamed rs) ≡ map moved (flat_map (own_sites role fixed) rs)
+  flat_moved : (role : Role) (fixed : Option ℕ) (rs : List Walk) →
+      flat_map (own_sites role fixed) (map renamed rs) ≡ map moved (flat_map (own_sites role fixed) rs)
   flat_moved role fixed [] = refl
-  flat_moved role fixed (r ∷ rs) = ap (λ zs. map moved (own_sites role fixed r) ++ zs) (flat_moved role fixed rs) ∙ join_moved (own_sites role fixed r) (flat_map (own_sites role fixed) rs)
+  flat_moved role fixed (r ∷ rs) = ap (λ zs. map moved (own_sites role fixed r) ++ zs) (flat_moved role fixed rs) ∙
+      join_moved (own_sites role fixed r) (flat_map (own_sites role fixed) rs)
 
   shown_moved : (rs : List Walk) → map (λ (r : Walk). r.shown) (map renamed rs) ≡ map (λ (r : Walk). r.shown) rs
   shown_moved rs = map-map (λ (r : Walk). r.shown) renamed rs
@@ -92,14 +94,18 @@ module _ (names : Names) where
   step_moved constant fixed (Select-F.Bit a) = if_moved constant (fixed_sites a) (own_sites Value fixed a)
   step_moved constant fixed (Select-F.Part a b) = join_moved (fixed_sites a) (fixed_sites b)
   step_moved constant fixed (Select-F.Up a b) =
-      ap (λ zs. zs ++ map moved (fixed_sites b)) (if_moved constant (fixed_sites a) (own_sites Value fixed a)) ∙ join_moved (index_sites constant fixed a) (fixed_sites b)
+      ap (λ zs. zs ++ map moved (fixed_sites b)) (if_moved constant (fixed_sites a) (own_sites Value fixed a)) ∙
+      join_moved (index_sites constant fixed a) (fixed_sites b)
   step_moved constant fixed (Select-F.Down a b) =
-      ap (λ zs. zs ++ map moved (fixed_sites b)) (if_moved constant (fixed_sites a) (own_sites Value fixed a)) ∙ join_moved (index_sites constant fixed a) (fixed_sites b)
+      ap (λ zs. zs ++ map moved (fixed_sites b)) (if_moved constant (fixed_sites a) (own_sites Value fixed a)) ∙
+      join_moved (index_sites constant fixed a) (fixed_sites b)
 
-  steps_moved : (constant : Bool) (fixed : Option ℕ) (xs : List WalkStep) → flat_map (step_sites constant fixed) (map renamed_step xs) ≡ map moved (flat_map (step_sites constant fixed) xs)
+  steps_moved : (constant : Bool) (fixed : Option ℕ) (xs : List WalkStep) →
+      flat_map (step_sites constant fixed) (map renamed_step xs) ≡ map moved (flat_map (step_sites constant fixed) xs)
   steps_moved constant fixed [] = refl
   steps_moved constant fixed (x ∷ xs) =
-      two (λ (a b : List Site). a ++ b) _ _ _ _ (step_moved constant fixed x) (steps_moved constant fixed xs) ∙ join_moved (step_sites constant fixed x) (flat_map (step_sites constant fixed) xs)
+      two (λ (a b : List Site). a ++ b) _ _ _ _ (step_moved constant fixed x) (steps_moved constant fixed xs) ∙
+      join_moved (step_sites constant fixed x) (flat_map (step_sites constant fixed) xs)
 
   step_shown_moved : (x : WalkStep) → step_shown (renamed_step x) ≡ step_shown x
   step_shown_moved (Select-F.Bit a) = refl
@@ -153,7 +159,8 @@ has_declared (Some d) y h = (d, refl)
 -- ---- nodes
 
 module _ (base names : Names) where
-  pair_moved : (k p : Bool) (fixed : Option ℕ) (W : ℕ) (T : Bool) (a b : Walk) → pair_sites k p fixed W T (renamed names a) (renamed names b) ≡ map (moved names) (pair_sites k p fixed W T a b)
+  pair_moved : (k p : Bool) (fixed : Option ℕ) (W : ℕ) (T : Bool) (a b : Walk) →
+      pair_sites k p fixed W T (renamed names a) (renamed names b) ≡ map (moved names) (pair_sites k p fixed W T a b)
   pair_moved true true fixed W T a b = join_moved names (a.sites Value fixed W T) (own_sites Value fixed b)
   pair_moved true false fixed W T a b = join_moved names (a.sites Value fixed W T) (b.sites Value fixed W T)
   pair_moved false true fixed W T a b = join_moved names (own_sites Value fixed a) (own_sites Value fixed b)
@@ -182,7 +189,8 @@ module _ (base names : Names) where
       ap (noded names (shown_of base (Expr-F.Rem a.shown b.shown)) (Expr-F.Rem a.shown b.shown))
       (below_same names _ _ (λ role fixed W T. join_moved names (a.sites Value fixed W T) (b.sites Value fixed W T)))
 
-  same_Cond : (c a b : Walk) → walk_step names (Expr-F.Cond (renamed names c) (renamed names a) (renamed names b)) ≡ renamed names (walk_step base (Expr-F.Cond c a b))
+  same_Cond : (c a b : Walk) → walk_step names (Expr-F.Cond (renamed names c) (renamed names a) (renamed names b)) ≡ renamed names
+      (walk_step base (Expr-F.Cond c a b))
   same_Cond c a b =
       ap (noded names (shown_of base (Expr-F.Cond c.shown a.shown b.shown)) (Expr-F.Cond c.shown a.shown b.shown))
       (below_same names _ _ (λ role fixed W T.
@@ -191,16 +199,20 @@ module _ (base names : Names) where
 
   same_Cat : (rs : List Walk) → walk_step names (Expr-F.Cat (map (renamed names) rs)) ≡ renamed names (walk_step base (Expr-F.Cat rs))
   same_Cat rs =
-      ap (λ (ws : List Shown). noded names (shown_of base (Expr-F.Cat ws)) (Expr-F.Cat ws) (below_sites (Expr-F.Cat (map (renamed names) rs)))) (shown_moved names rs) ∙
+      ap (λ (ws : List Shown). noded names (shown_of base (Expr-F.Cat ws)) (Expr-F.Cat ws) (below_sites (Expr-F.Cat (map (renamed names) rs))))
+      (shown_moved names rs) ∙
       ap (noded names (shown_of base (Expr-F.Cat (map (λ (r : Walk). r.shown) rs))) (Expr-F.Cat (map (λ (r : Walk). r.shown) rs)))
       (below_same names _ _ (λ role fixed W T. flat_moved names (joined_role role) fixed rs))
 
-  same_Rep : (n : Walk) (rs : List Walk) → walk_step names (Expr-F.Rep (renamed names n) (map (renamed names) rs)) ≡ renamed names (walk_step base (Expr-F.Rep n rs))
+  same_Rep : (n : Walk) (rs : List Walk) → walk_step names (Expr-F.Rep (renamed names n) (map (renamed names) rs)) ≡ renamed names
+      (walk_step base (Expr-F.Rep n rs))
   same_Rep n rs =
-      ap (λ (ws : List Shown). noded names (shown_of base (Expr-F.Rep n.shown ws)) (Expr-F.Rep n.shown ws) (below_sites (Expr-F.Rep (renamed names n) (map (renamed names) rs)))) (shown_moved names rs) ∙
+      ap (λ (ws : List Shown). noded names (shown_of base (Expr-F.Rep n.shown ws)) (Expr-F.Rep n.shown ws)
+      (below_sites (Expr-F.Rep (renamed names n) (map (renamed names) rs)))) (shown_moved names rs) ∙
       ap (noded names (shown_of base (Expr-F.Rep n.shown (map (λ (r : Walk). r.shown) rs))) (Expr-F.Rep n.shown (map (λ (r : Walk). r.shown) rs)))
       (below_same names _ _ (λ role fixed W T.
-      ap (λ zs. map (moved names) (fixed_sites n) ++ zs) (flat_moved names Joined fixed rs) ∙ join_moved names (fixed_sites n) (flat_map (own_sites Joined fixed) rs)))
+      ap (λ zs. map (moved names) (fixed_sites n) ++ zs) (flat_moved names Joined fixed rs) ∙
+      join_moved names (fixed_sites n) (flat_map (own_sites Joined fixed) rs)))
 
   same_Cast : (signed : Bool) (a : Walk) → walk_step names (Expr-F.Cast signed (renamed names a)) ≡ renamed names (walk_step base (Expr-F.Cast signed a))
   same_Cast signed a = refl
@@ -211,8 +223,10 @@ module _ (base names : Names) where
   same_Name : (path : Path) (xs : List WalkStep) (d : Declared) → base path ≡ Some d → names path ≡ Some d →
       walk_step names (Expr-F.Name path (map (renamed_step names) xs)) ≡ renamed names (walk_step base (Expr-F.Name path xs))
   same_Name path xs d h k =
-      ap (λ (ss : List Step). noded names (named_shown path (names path) ss) (Expr-F.Name path ss) (below_sites (Expr-F.Name path (map (renamed_step names) xs)))) (steps_shown names xs) ∙
-      ap (λ (o : Option Declared). noded names (named_shown path o (map step_shown xs)) (Expr-F.Name path (map step_shown xs)) (below_sites (Expr-F.Name path (map (renamed_step names) xs)))) (k ∙ sym h) ∙
+      ap (λ (ss : List Step). noded names (named_shown path (names path) ss) (Expr-F.Name path ss)
+      (below_sites (Expr-F.Name path (map (renamed_step names) xs)))) (steps_shown names xs) ∙
+      ap (λ (o : Option Declared). noded names (named_shown path o (map step_shown xs)) (Expr-F.Name path (map step_shown xs))
+      (below_sites (Expr-F.Name path (map (renamed_step names) xs)))) (k ∙ sym h) ∙
       ap (noded names (named_shown path (base path) (map step_shown xs)) (Expr-F.Name path (map step_shown xs)))
       (below_same names _ _ (λ role fixed W T. steps_moved names (is_driven role) fixed xs))
 
@@ -256,14 +270,18 @@ module _ (base names : Names) (ext : Extends base names) where
     carry : (x : Expr) → Quiet (before x) → after x ≡ renamed names (before x)
     carry (e.Lit l) q = refl
     carry (e.Name' path n ss) (role, fixed, W, T, h) =
-        let k : (d : Declared) × (base path ≡ Some d) = has_declared (base path) (NoValue path.place) (none_left (no_value_of path) (flat_map no_value (flat_map (step_sites (is_driven role) fixed) (before_selects ss))) h) in
-        let t : Silent (flat_map (step_sites (is_driven role) fixed) (before_selects ss)) = none_right (no_value_of path) (flat_map no_value (flat_map (step_sites (is_driven role) fixed) (before_selects ss))) h in
-        ap (λ xs. walk_step names (Expr-F.Name path xs)) (carry_selects (is_driven role) fixed ss t) ∙ same_Name base names path (before_selects ss) k.0 k.1 (ext path k.0 k.1)
+        let k : (d : Declared) × (base path ≡ Some d) = has_declared (base path) (NoValue path.place)
+        (none_left (no_value_of path) (flat_map no_value (flat_map (step_sites (is_driven role) fixed) (before_selects ss))) h) in
+        let t : Silent (flat_map (step_sites (is_driven role) fixed) (before_selects ss)) = none_right (no_value_of path)
+        (flat_map no_value (flat_map (step_sites (is_driven role) fixed) (before_selects ss))) h in
+        ap (λ xs. walk_step names (Expr-F.Name path xs)) (carry_selects (is_driven role) fixed ss t) ∙
+        same_Name base names path (before_selects ss) k.0 k.1 (ext path k.0 k.1)
     carry (e.Un' op n a) (role, fixed, W, T, h) =
         ap (λ z. walk_step names (Expr-F.Un op z)) (carry_one a (quiet_one (keeps_width op) fixed W T (before_one a) h)) ∙ same_Un base names op (before_one a)
     carry (e.Bin' op n a m b) (role, fixed, W, T, h) =
         let q : Quiet (before_one a) × Quiet (before_one b) = quiet_pair (keeps_width op) (is_apart op) fixed W T (before_one a) (before_one b) h in
-        two (λ (y z : Walk). walk_step names (Expr-F.Bin op y z)) _ _ _ _ (carry_one a q.0) (carry_one b q.1) ∙ same_Bin base names op (before_one a) (before_one b)
+        two (λ (y z : Walk). walk_step names (Expr-F.Bin op y z)) _ _ _ _ (carry_one a q.0) (carry_one b q.1) ∙
+        same_Bin base names op (before_one a) (before_one b)
     carry (e.Div' n a m b) (role, fixed, W, T, h) =
         two (λ (y z : Walk). walk_step names (Expr-F.Div y z)) _ _ _ _
         (carry_one a (at_quiet fixed W T (before_one a) (silent_left ((before_one a).sites Value fixed W T) ((before_one b).sites Value fixed W T) h)))
@@ -281,7 +299,8 @@ module _ (base names : Names) (ext : Extends base names) where
         (carry_one c (own_quiet Value fixed (before_one c) (silent_left (own_sites Value fixed (before_one c)) ((before_one a).sites Value fixed W T) l))) ∙
         two (λ (y z : Walk). walk_step names (Expr-F.Cond (renamed names (before_one c)) y z)) _ _ _ _
         (carry_one a (at_quiet fixed W T (before_one a) (silent_right (own_sites Value fixed (before_one c)) ((before_one a).sites Value fixed W T) l)))
-        (carry_one b (at_quiet fixed W T (before_one b) (silent_right (own_sites Value fixed (before_one c) ++ (before_one a).sites Value fixed W T) ((before_one b).sites Value fixed W T) h))) ∙
+        (carry_one b (at_quiet fixed W T (before_one b)
+        (silent_right (own_sites Value fixed (before_one c) ++ (before_one a).sites Value fixed W T) ((before_one b).sites Value fixed W T) h))) ∙
         same_Cond base names (before_one c) (before_one a) (before_one b)
     carry (e.Cat' n es) (role, fixed, W, T, h) =
         ap (λ zs. walk_step names (Expr-F.Cat zs)) (carry_all (joined_role role) fixed es h) ∙ same_Cat base names (before_all es)
@@ -298,14 +317,16 @@ module _ (base names : Names) (ext : Extends base names) where
     carry_one end_of-Expr q = refl
     carry_one (more_of-Expr x xs) q = carry x q
 
-    carry_all : {n : _} (role : Role) (fixed : Option ℕ) (r : Row_of-Expr n) → Silent (flat_map (own_sites role fixed) (before_all r)) → after_all r ≡ map (renamed names) (before_all r)
+    carry_all : {n : _} (role : Role) (fixed : Option ℕ) (r : Row_of-Expr n) → Silent (flat_map (own_sites role fixed) (before_all r)) →
+        after_all r ≡ map (renamed names) (before_all r)
     carry_all role fixed end_of-Expr h = refl
     carry_all role fixed (more_of-Expr x xs) h =
         two (λ (y : Walk) (ys : List Walk). y ∷ ys) _ _ _ _
         (carry x (own_quiet role fixed (before x) (silent_left (own_sites role fixed (before x)) (flat_map (own_sites role fixed) (before_all xs)) h)))
         (carry_all role fixed xs (silent_right (own_sites role fixed (before x)) (flat_map (own_sites role fixed) (before_all xs)) h))
 
-    carry_select : (constant : Bool) (fixed : Option ℕ) (x : Select) → Silent (step_sites constant fixed (before_select x)) → after_select x ≡ renamed_step names (before_select x)
+    carry_select : (constant : Bool) (fixed : Option ℕ) (x : Select) → Silent (step_sites constant fixed (before_select x)) →
+        after_select x ≡ renamed_step names (before_select x)
     carry_select constant fixed (s.Bit' n a) h = ap (λ z. Select-F.Bit z) (carry_one a (quiet_index constant fixed (before_one a) h))
     carry_select constant fixed (s.Part' n a m b) h =
         two (λ (y z : Walk). Select-F.Part y z) _ _ _ _
@@ -326,13 +347,16 @@ module _ (base names : Names) (ext : Extends base names) where
     carry_selects constant fixed (more_of-Select x xs) h =
         two (λ (y : WalkStep) (ys : List WalkStep). y ∷ ys) _ _ _ _
         (carry_select constant fixed x (silent_left (step_sites constant fixed (before_select x)) (flat_map (step_sites constant fixed) (before_selects xs)) h))
-        (carry_selects constant fixed xs (silent_right (step_sites constant fixed (before_select x)) (flat_map (step_sites constant fixed) (before_selects xs)) h))
+        (carry_selects constant fixed xs (silent_right (step_sites constant fixed (before_select x))
+        (flat_map (step_sites constant fixed) (before_selects xs)) h))
 
   -- node by node
-  pub carried-walk : (x : Expr) (role : Role) (fixed : Option ℕ) (W : ℕ) (T : Bool) → Silent ((walk base x).sites role fixed W T) → walk names x ≡ renamed names (walk base x)
+  pub carried-walk : (x : Expr) (role : Role) (fixed : Option ℕ) (W : ℕ) (T : Bool) → Silent ((walk base x).sites role fixed W T) →
+      walk names x ≡ renamed names (walk base x)
   unfolding walk
   carried-walk x role fixed W T h = carry x (role, fixed, W, T, h)
 
   -- its width, its type and its value are the same
-  pub carried : (x : Expr) (role : Role) (fixed : Option ℕ) (W : ℕ) (T : Bool) → Silent ((walk base x).sites role fixed W T) → read_expr names x ≡ read_expr base x
+  pub carried : (x : Expr) (role : Role) (fixed : Option ℕ) (W : ℕ) (T : Bool) → Silent ((walk base x).sites role fixed W T) →
+      read_expr names x ≡ read_expr base x
   carried x role fixed W T h = sym (walk-reads names x) ∙ ap (λ (w : Walk). w.shown.reading) (carried-walk x role fixed W T h) ∙ walk-reads base x

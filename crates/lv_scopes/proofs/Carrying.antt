@@ -43,14 +43,17 @@ clean_right xs ys h = record {
 silent_by : (xs : List Site) → flat_map form_faults xs ≡ [] → Silent xs
 silent_by [] h = refl
 silent_by (s ∷ ss) h =
-    two (λ (a b : List ConstError). a ++ b) _ _ _ _ (none_left (no_value s) (map x.Range (out_of_range s)) (none_left (form_faults s) (flat_map form_faults ss) h))
+    two (λ (a b : List ConstError). a ++ b) _ _ _ _
+    (none_left (no_value s) (map x.Range (out_of_range s)) (none_left (form_faults s) (flat_map form_faults ss) h))
     (silent_by ss (none_right (form_faults s) (flat_map form_faults ss) h))
 
 -- ---- an expression
 
-pub same_reading : (base names : Names) → Extends base names → (e : Expr) (width : ℕ) → AreClean (expr_sites true base width e) → read_expr names e ≡ read_expr base e
+pub same_reading : (base names : Names) → Extends base names → (e : Expr) (width : ℕ) → AreClean (expr_sites true base width e) →
+    read_expr names e ≡ read_expr base e
 same_reading base names ext e width h =
-    carried base names ext e Value (Some (first_place (walk base e).shown)) (max width (walk base e).shown.reading.meaning.width) (walk base e).shown.reading.meaning.signed
+    carried base names ext e Value (Some (first_place (walk base e).shown)) (max width (walk base e).shown.reading.meaning.width)
+    (walk base e).shown.reading.meaning.signed
     (silent_by (expr_sites true base width e) h.sound.none)
 
 -- ---- bounds and parameters
@@ -62,7 +65,8 @@ carried_bounds base names ext r h =
     (same_reading base names ext r.right 0 (clean_right (expr_sites true base 0 r.left) (expr_sites true base 0 r.right) h))
 
 -- the names of the range, and those of the value
-pub carried_parameter : (base names there around : Names) → Extends base names → Extends there around → (name : Ident) (signed : Bool) (range : Option Range) (value : Expr) →
+pub carried_parameter : (base names there around : Names) → Extends base names → Extends there around →
+    (name : Ident) (signed : Bool) (range : Option Range) (value : Expr) →
     AreClean (parameter_sites base there range value) → parameter names name signed range around value ≡ parameter base name signed range there value
 carried_parameter base names there around ext more name signed None value h =
     ap (λ (m : Reading). constant name.name (record { left = m.meaning.width - 1; right = 0 }) (signed || m.meaning.signed) (own_value m.meaning nowhere))
@@ -70,7 +74,8 @@ carried_parameter base names there around ext more name signed None value h =
 carried_parameter base names there around ext more name signed (Some r) value h =
     two (λ (b : Bounds) (m : Reading). constant name.name b signed (assigned nowhere (size b) m.meaning)) _ _ _ _
     (carried_bounds base names ext r (clean_left (range_sites base (Some r)) (expr_sites true there (size (bounds_of base r)) value) h))
-    (same_reading there around more value (size (bounds_of base r)) (clean_right (range_sites base (Some r)) (expr_sites true there (size (bounds_of base r)) value) h))
+    (same_reading there around more value (size (bounds_of base r))
+    (clean_right (range_sites base (Some r)) (expr_sites true there (size (bounds_of base r)) value) h))
 
 -- ---- turns
 
@@ -98,12 +103,15 @@ module _ (base names : Names) (ext : Extends base names) (index : Name) (test ne
   goes there n value = turns_from n there index test next value
 
   test_same : (value : ℕ) → AreClean (test_sites (at value) test) → constant_value (with_index names index value) test ≡ constant_value (at value) test
-  test_same value h = ap (λ (r : Reading). own_value r.meaning nowhere) (same_reading (at value) (with_index names index value) (extends_index base names ext index value) test 0 h)
+  test_same value h = ap (λ (r : Reading). own_value r.meaning nowhere)
+      (same_reading (at value) (with_index names index value) (extends_index base names ext index value) test 0 h)
 
   next_same : (value : ℕ) → AreClean (next_sites (at value) next) → index_value (with_index names index value) next ≡ after value
-  next_same value h = ap (λ (r : Reading). assigned nowhere 32 r.meaning) (same_reading (at value) (with_index names index value) (extends_index base names ext index value) next 32 h)
+  next_same value h = ap (λ (r : Reading). assigned nowhere 32 r.meaning)
+      (same_reading (at value) (with_index names index value) (extends_index base names ext index value) next 32 h)
 
-  turns_same : (n value : ℕ) → AreClean (tests (value ∷ map after (goes base n value))) → AreClean (nexts (goes base n value)) → goes names n value ≡ goes base n value
+  turns_same : (n value : ℕ) → AreClean (tests (value ∷ map after (goes base n value))) → AreClean (nexts (goes base n value)) →
+      goes names n value ≡ goes base n value
   turns_same zero value t x = turns_from-none names index test next value ∙ sym (turns_from-none base index test next value)
   turns_same (suc n) value t x =
       let e : constant_value (with_index names index value) test ≡ constant_value (at value) test =
@@ -116,7 +124,8 @@ module _ (base names : Names) (ext : Extends base names) (index : Name) (test ne
             let y : AreClean (nexts (value ∷ goes base n (after value))) = subst (λ ks. AreClean (nexts ks)) turn x in
             turns_from-turn n names index test next value (ap (λ z. z == 0) e ∙ k) ∙
             ap (λ z. value ∷ goes names n z) (next_same value (clean_left (next_sites (at value) next) (nexts (goes base n (after value))) y)) ∙
-            ap (λ zs. value ∷ zs) (turns_same n (after value) (clean_right (test_sites (at value) test) (tests (after value ∷ map after (goes base n (after value)))) u)
+            ap (λ zs. value ∷ zs) (turns_same n (after value)
+            (clean_right (test_sites (at value) test) (tests (after value ∷ map after (goes base n (after value)))) u)
             (clean_right (next_sites (at value) next) (nexts (goes base n (after value))) y)) ∙
             sym turn
       ]

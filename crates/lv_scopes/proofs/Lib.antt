@@ -6,4 +6,5 @@ pub mod NumberLaws
 pub mod ParamLaws
 pub mod ParameterLaws
 pub mod RangeLaws
+pub mod TableLaws
 pub mod TurnLaws

@@ -27,7 +27,8 @@ module _ (names : Names) (x : Expr) (least w : ℕ) (s : Bool) (o : IsOwnOf name
       constant = o.constant;
       clean = record {
         sound = o.sound _ _ _;
-        divides = subst (λ n. Divides ((walk names x).sites Value (Some (first_place (walk names x).shown)) n (walk names x).shown.reading.meaning.signed)) reaches
+        divides = subst (λ n. Divides ((walk names x).sites Value (Some (first_place (walk names x).shown)) n (walk names x).shown.reading.meaning.signed))
+            reaches
             (subst (λ b. Divides ((walk names x).sites Value (Some (first_place (walk names x).shown)) (max least w) b)) types (v.divides _));
       };
     };

@@ -30,7 +30,8 @@ each_more true ps names (x ∷ xs) s = each_more true ps (one_more names ps x) x
 each_more false ps names (x ∷ xs) s = each_more false ps (one_more names ps x) xs s
 
 -- whether they are local does not count where no instance sets them
-either : (ps : Params) (names : Names) (xs : List Setting) → with_parameters [] names (map (declared false ps) xs) ≡ with_parameters [] names (map (declared true ps) xs)
+either : (ps : Params) (names : Names) (xs : List Setting) →
+    with_parameters [] names (map (declared false ps) xs) ≡ with_parameters [] names (map (declared true ps) xs)
 either ps names [] = refl
 either ps names (x ∷ xs) = either ps (one_more names ps x) xs
 
@@ -38,9 +39,11 @@ pub set_either : (local : Bool) (ps : Params) (names : Names) → params_set loc
 set_either true ps names = refl
 set_either false ps names = either ps names ps.list
 
-before_more : (names : Names) (ps : Params) (k : ℕ) (s : Setting) → k < length ps.list → s ≡ get_or ps.list k s → names_before names ps (k + 1) ≡ one_more (names_before names ps k) ps s
+before_more : (names : Names) (ps : Params) (k : ℕ) (s : Setting) → k < length ps.list → s ≡ get_or ps.list k s →
+    names_before names ps (k + 1) ≡ one_more (names_before names ps k) ps s
 before_more names ps k s h e =
-    ap (with_parameters [] names) (take-map (declared true ps) (k + 1) ps.list ∙ ap (map (declared true ps)) (take_more ps.list k s h ∙ ap (λ (z : Setting). take k ps.list ++ z ∷ []) (sym e))) ∙
+    ap (with_parameters [] names) (take-map (declared true ps) (k + 1) ps.list ∙
+    ap (map (declared true ps)) (take_more ps.list k s h ∙ ap (λ (z : Setting). take k ps.list ++ z ∷ []) (sym e))) ∙
     each_more true ps names (take k ps.list) s ∙
     ap (λ ds. one_more (with_parameters [] names ds) ps s) (sym (take-map (declared true ps) k ps.list))
 
@@ -55,16 +58,19 @@ found ps k s h e = slice_get-get_or ps.list k s h ∙ ap (λ (z : Setting). Some
 below_or : (j k : ℕ) → j < k + 1 → (j < k) ⊎ (j ≡ k)
 below_or j k h = grind arith
 
-module _ (old mid : List Entry) (ps : Params) (k : ℕ) (s : Setting) (h : AreSetSoFar old mid ps k) (within : k < length ps.list) (is : s ≡ get_or ps.list k s) where
+module _ (old mid : List Entry) (ps : Params) (k : ℕ) (s : Setting) (h : AreSetSoFar old mid ps k) (within : k < length ps.list)
+    (is : s ≡ get_or ps.list k s) where
   last_sound : IsSound (names_of mid) (names_of mid) ps.range s.value → (j : ℕ) (t : Setting) → (j < k) ⊎ (j ≡ k) → slice_get ps.list j ≡ Some t →
       IsSound (names_before (names_of old) ps j) (names_before (names_of old) ps j) ps.range t.value
   last_sound w j t (inl l) e = h.sound j t l e
   last_sound w j t (inr l) e =
-      let same : s ≡ t = (let a : slice_get ps.list k ≡ Some s = found ps k s within is in let b : slice_get ps.list k ≡ Some t = ap (slice_get ps.list) (sym l) ∙ e in cc) in
+      let same : s ≡ t = (let a : slice_get ps.list k ≡ Some s = found ps k s within is in let b : slice_get ps.list k ≡ Some t = ap (slice_get ps.list)
+      (sym l) ∙ e in cc) in
       subst (λ i. IsSound (names_before (names_of old) ps i) (names_before (names_of old) ps i) ps.range t.value) (sym l)
       (subst (λ names. IsSound names names ps.range t.value) h.named (subst (λ (z : Setting). IsSound (names_of mid) (names_of mid) ps.range z.value) same w))
 
-  pub set_more : (new : List Entry) → (e : Entry) × (new ≡ mid ++ e ∷ []) → names_of new ≡ one_more (names_of mid) ps s → IsSound (names_of mid) (names_of mid) ps.range s.value →
+  pub set_more : (new : List Entry) → (e : Entry) × (new ≡ mid ++ e ∷ []) → names_of new ≡ one_more (names_of mid) ps s →
+      IsSound (names_of mid) (names_of mid) ps.range s.value →
       AreSetSoFar old new ps (k + 1)
   set_more new a n w = record {
     longer = (h.longer.0 ++ a.0 ∷ [], a.1 ∙ ap (λ zs. zs ++ a.0 ∷ []) h.longer.1 ∙ append_assoc old h.longer.0 (a.0 ∷ []));
@@ -73,7 +79,12 @@ module _ (old mid : List Entry) (ps : Params) (k : ℕ) (s : Setting) (h : AreSe
   }
 
   pub set_none : (y : ParameterError) → IsUnset (names_of mid) (names_of mid) ps.range s.value s.name.place y → IsUnsetIn (names_of old) ps y
-  set_none y w = record { at = k; setting = s; is = found ps k s within is; told = subst (λ names. IsUnset names names ps.range s.value s.name.place y) h.named w }
+  set_none y w = record {
+    at = k;
+    setting = s;
+    is = found ps k s within is;
+    told = subst (λ names. IsUnset names names ps.range s.value s.name.place y) h.named w;
+  }
 
 pub cut_back : (old mid : List Entry) (ps : Params) (k n : ℕ) → AreSetSoFar old mid ps k → n ≡ length old → take n mid ≡ old
 cut_back old mid ps k n h e = ap (take n) h.longer.1 ∙ take_at old h.longer.0 n (sym e)
@@ -81,7 +92,8 @@ cut_back old mid ps k n h e = ap (take n) h.longer.1 ∙ take_at old h.longer.0 
 module _ (old new : List Entry) (ps : Params) (k : ℕ) (h : AreSetSoFar old new ps k) (all : length ps.list ≤ k) where
   pub set_named : (local : Bool) → names_of new ≡ params_set local (names_of old) ps
   set_named local =
-      h.named ∙ ap (with_parameters [] (names_of old)) (take-map (declared true ps) k ps.list ∙ ap (map (declared true ps)) (take_all k ps.list all)) ∙ sym (set_either local ps (names_of old))
+      h.named ∙ ap (with_parameters [] (names_of old)) (take-map (declared true ps) k ps.list ∙ ap (map (declared true ps)) (take_all k ps.list all)) ∙
+      sym (set_either local ps (names_of old))
 
   pub set_sound : AreSound (names_of old) ps
   set_sound = record { each = λ j s e. h.sound j s (let l : j < length ps.list = slice_get_within ps.list j s e in omega arith) e }

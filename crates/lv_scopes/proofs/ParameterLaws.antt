@@ -38,24 +38,28 @@ by name left right signed value = constant name (record { left = left; right = r
 
 pub plain_is : (names : Names) (x : Expr) (n : Number) (signed : Bool) (name : Name) → IsNumber names 0 x n →
     by name (n.word.width - 1) 0 (signed || n.signed) n.word.value ≡
-    by name ((meaning names x).width - 1) 0 (signed || (meaning names x).signed) ((meaning names x).value (meaning names x).width (meaning names x).signed nowhere)
+    by name ((meaning names x).width - 1) 0 (signed || (meaning names x).signed)
+    ((meaning names x).value (meaning names x).width (meaning names x).signed nowhere)
 plain_is names x n signed name h =
     let w : n.word.width ≡ own_width names x = h.width ∙ omega arith in
     ap (λ v. by name (n.word.width - 1) 0 (signed || n.signed) v) (own_is names x n h) ∙
     two (λ (w : ℕ) (s : Bool). by name (w - 1) 0 (signed || s) (value_of names x (own_width names x) (own_signed names x) nowhere)) _ _ _ _ w h.signed
 
-pub sized_is : (names : Names) (x : Expr) (n : Number) (width : ℕ) → IsNumber names width x n → n.word.value / 2 ^ 0 % 2 ^ width ≡ assigned nowhere width (meaning names x)
+pub sized_is : (names : Names) (x : Expr) (n : Number) (width : ℕ) → IsNumber names width x n →
+    n.word.value / 2 ^ 0 % 2 ^ width ≡ assigned nowhere width (meaning names x)
 sized_is names x n width h =
     let e : n.word.value / 2 ^ 0 ≡ n.word.value = omega arith in
     ap (λ (z : ℕ). z % 2 ^ width)
-    (e ∙ h.value nowhere ∙ ap (λ w. value_of names x w n.signed nowhere) h.width ∙ ap (λ s. value_of names x (max width (own_width names x)) s nowhere) h.signed)
+    (e ∙ h.value nowhere ∙ ap (λ w. value_of names x w n.signed nowhere) h.width ∙
+    ap (λ s. value_of names x (max width (own_width names x)) s nowhere) h.signed)
 
 -- ---- a range
 
 -- a vector has at most 128 bits
 pub narrow : (names : Names) (r : Range) (b : ℕ × ℕ) → IsRange names r true b → span b.0 b.1 ≤ 128
 narrow names r b h =
-    let t : is_width (size (bounds_of names r)) ≡ true = and-right (is_bound (bound_number names r.left) && is_bound (bound_number names r.right)) _ h.allowed in
+    let t : is_width (size (bounds_of names r)) ≡ true = and-right
+    (is_bound (bound_number names r.left) && is_bound (bound_number names r.right)) _ h.allowed in
     let u : is_width (span b.0 b.1) ≡ true = sym (ap (λ z. is_width (size z)) h.bounds) ∙ t in
     grind (arith, nat_tests)
 
@@ -76,7 +80,8 @@ module _ (here there : Names) (signed : Bool) (value : Expr) (place : ℕ) where
     abbrev not_allowed : List ConstError
     not_allowed = map x.Range (place_if (not (is_range here true (Some r))) place)
 
-    split : (y : ConstError) → Contains not_allowed y ⊎ Contains (flat_map all_faults (range_sites here (Some r))) y → Contains (parameter_faults here there (Some r) value place) y
+    split : (y : ConstError) → Contains not_allowed y ⊎ Contains (flat_map all_faults (range_sites here (Some r))) y →
+        Contains (parameter_faults here there (Some r) value place) y
     split y (inl k) = Contains-append_left not_allowed (flat_map all_faults (parameter_sites here there (Some r) value)) y k
     split y (inr k) =
         let t : Told (range_sites here (Some r)) y = record { found = k } in
@@ -84,7 +89,11 @@ module _ (here there : Names) (signed : Bool) (value : Expr) (place : ℕ) where
         (told-first (range_sites here (Some r)) (expr_sites true there (size (bounds_of here r)) value) y t).found
 
     pub range_told : (y : ConstError) → IsRangeFault here r true place y → IsParameterAnswer here there signed (Some r) value place (Err y)
-    range_told y h = record { right = tt; wrong = record { told = split y (Contains-append_cases not_allowed (flat_map all_faults (range_sites here (Some r))) y h.told) } }
+    range_told y h = record {
+      right = tt;
+      wrong =
+          record { told = split y (Contains-append_cases not_allowed (flat_map all_faults (range_sites here (Some r))) y h.told) };
+    }
 
     module _ (b : ℕ × ℕ) (h : IsRange here r true b) where
       wide : span b.0 b.1 ≡ size (bounds_of here r)
@@ -108,7 +117,8 @@ module _ (here there : Names) (signed : Bool) (value : Expr) (place : ℕ) where
         right = tt;
         wrong = record {
           told = Contains-append_right not_allowed (flat_map all_faults (parameter_sites here there (Some r) value)) y
-              (told-second (range_sites here (Some r)) (expr_sites true there (size (bounds_of here r)) value) y (subst (λ w. Told (expr_sites true there w value) y) wide k)).found;
+              (told-second (range_sites here (Some r)) (expr_sites true there (size (bounds_of here r)) value) y
+              (subst (λ w. Told (expr_sites true there w value) y) wide k)).found;
         };
       }
 

@@ -28,7 +28,8 @@ use Rattle.lv_scopes.proofs.TurnLaws.{own_is}
 number_is : (names : Names) (x : Expr) (n : Number) → IsNumber names 0 x n → number_in n.signed n.word.width n.word.value ≡ bound_number names x
 number_is names x n h =
     ap (λ v. number_in n.signed n.word.width v) (own_is names x n h) ∙
-    two (λ (s : Bool) (w : ℕ). number_in s w (value_of names x (meaning names x).width (meaning names x).signed nowhere)) _ _ _ _ h.signed (h.width ∙ omega arith)
+    two (λ (s : Bool) (w : ℕ). number_in s w (value_of names x (meaning names x).width (meaning names x).signed nowhere)) _ _ _ _ h.signed
+    (h.width ∙ omega arith)
 
 -- ---- two numbers
 
@@ -64,7 +65,8 @@ found : (vector a c : Bool) (l r : ℕ) (b : ℕ × ℕ) → bounds_in vector (c
     (a ≡ true) × (c ≡ true) × (apart vector l r ≡ false) × ((let p : ℕ × ℕ = (l, r) in p) ≡ b)
 found vector false c l r b h = absurd (cc)
 found vector true false l r b h = absurd (cc)
-found vector true true l r b h = let t : (apart vector l r ≡ false) × ((let p : ℕ × ℕ = (l, r) in p) ≡ b) = last (apart vector l r) (l, r) b h in (refl, refl, t.0, t.1)
+found vector true true l r b h = let t : (apart vector l r ≡ false) × ((let p : ℕ × ℕ = (l, r) in p) ≡ b) = last (apart vector l r)
+    (l, r) b h in (refl, refl, t.0, t.1)
 
 none_behind : (vector a : Bool) (l : ℕ) (b : ℕ × ℕ) → bounds_in vector (cond a (Some l) None) None ≡ Some b → ⊥
 none_behind vector true l b h = cc
@@ -74,7 +76,8 @@ yes : (vector : Bool) (l r : ℤ) (b : ℕ × ℕ) → both vector l r ≡ Some 
 yes vector (negsuc l) r b h = absurd (cc)
 yes vector (pos l) (negsuc r) b h = absurd (none_behind vector (nat_le l 65535) l b h)
 yes vector (pos l) (pos r) b h =
-    let t : (nat_le l 65535 ≡ true) × (nat_le r 65535 ≡ true) × (apart vector l r ≡ false) × ((let p : ℕ × ℕ = (l, r) in p) ≡ b) = found vector (nat_le l 65535) (nat_le r 65535) l r b h in
+    let t : (nat_le l 65535 ≡ true) × (nat_le r 65535 ≡ true) × (apart vector l r ≡ false) × ((let p : ℕ × ℕ = (l, r) in p) ≡ b) = found vector
+    (nat_le l 65535) (nat_le r 65535) l r b h in
     subst (AreBounds vector (pos l) (pos r)) t.3 (record {
       left = refl;
       right = refl;
@@ -133,19 +136,26 @@ module _ (names : Names) (r : Range) (vector : Bool) (place : ℕ) (m n : Number
       let t : is_range names vector (Some r) ≡ false = sym same ∙ no vector left right e in record {
         right = tt;
         wrong = record {
-          told = Contains-append_left (map x.Range (place_if (not (is_range names vector (Some r))) place)) (flat_map all_faults (range_sites names (Some r))) (x.Range place)
+          told = Contains-append_left (map x.Range (place_if (not (is_range names vector (Some r))) place))
+              (flat_map all_faults (range_sites names (Some r))) (x.Range place)
               (subst (λ b. Contains (map x.Range (place_if (not b) place)) (x.Range place)) (sym t) (here (x.Range place) []));
         };
       }
 
-pub range_faulty : (names : Names) (r : Range) (vector : Bool) (place : ℕ) (y : ConstError) → Told (range_sites names (Some r)) y → IsRangeAnswer names r vector place (Err y)
+pub range_faulty : (names : Names) (r : Range) (vector : Bool) (place : ℕ) (y : ConstError) → Told (range_sites names (Some r)) y →
+    IsRangeAnswer names r vector place (Err y)
 range_faulty names r vector place y h = record {
   right = tt;
-  wrong = record { told = Contains-append_right (map x.Range (place_if (not (is_range names vector (Some r))) place)) (flat_map all_faults (range_sites names (Some r))) y h.found };
+  wrong = record {
+    told = Contains-append_right (map x.Range (place_if (not (is_range names vector (Some r))) place))
+        (flat_map all_faults (range_sites names (Some r))) y h.found;
+  };
 }
 
-pub left_faulty : (names : Names) (r : Range) (vector : Bool) (place : ℕ) (y : ConstError) → Told (expr_sites true names 0 r.left) y → IsRangeAnswer names r vector place (Err y)
+pub left_faulty : (names : Names) (r : Range) (vector : Bool) (place : ℕ) (y : ConstError) → Told (expr_sites true names 0 r.left) y →
+    IsRangeAnswer names r vector place (Err y)
 left_faulty names r vector place y h = range_faulty names r vector place y (told-first (expr_sites true names 0 r.left) (expr_sites true names 0 r.right) y h)
 
-pub right_faulty : (names : Names) (r : Range) (vector : Bool) (place : ℕ) (y : ConstError) → Told (expr_sites true names 0 r.right) y → IsRangeAnswer names r vector place (Err y)
+pub right_faulty : (names : Names) (r : Range) (vector : Bool) (place : ℕ) (y : ConstError) → Told (expr_sites true names 0 r.right) y →
+    IsRangeAnswer names r vector place (Err y)
 right_faulty names r vector place y h = range_faulty names r vector place y (told-second (expr_sites true names 0 r.left) (expr_sites true names 0 r.right) y h)

@@ -24,7 +24,8 @@ use Rattle.lv_scopes.specs.Headers.{IsTurnFault, AreNoTurns, test_sites, next_si
 
 pub index_is : (names : Names) (x : Expr) (n : Number) → IsNumber names 32 x n → n.word.value % 4294967296 ≡ index_value names x
 index_is names x n h =
-    ap (λ (z : ℕ). z % 4294967296) (h.value nowhere ∙ ap (λ w. value_of names x w n.signed nowhere) h.width ∙ ap (λ s. value_of names x (max 32 (own_width names x)) s nowhere) h.signed)
+    ap (λ (z : ℕ). z % 4294967296) (h.value nowhere ∙ ap (λ w. value_of names x w n.signed nowhere) h.width ∙
+    ap (λ s. value_of names x (max 32 (own_width names x)) s nowhere) h.signed)
 
 pub own_is : (names : Names) (x : Expr) (n : Number) → IsNumber names 0 x n → n.word.value ≡ constant_value names x
 own_is names x n h =
@@ -74,7 +75,8 @@ module _ (names : Names) (index : Name) (start test next : Expr) where
       ap (λ m. turns_from m names index test next value) a ∙ turns_from-turn (1000001 - length (done ++ value ∷ [])) names index test next value t ∙
       ap (λ z. value ∷ turns_from (1000001 - length (done ++ value ∷ [])) names index test next z) (sym e)
 
-  rest_none : (done : List ℕ) (value : ℕ) → length done ≤ 1000000 → (constant_value (at value) test == 0) ≡ true → turns_from (1000001 - length done) names index test next value ≡ []
+  rest_none : (done : List ℕ) (value : ℕ) → length done ≤ 1000000 → (constant_value (at value) test == 0) ≡ true →
+      turns_from (1000001 - length done) names index test next value ≡ []
   rest_none done value h t =
       let a : 1000001 - length done ≡ suc (1000000 - length done) = omega arith in
       ap (λ m. turns_from m names index test next value) a ∙ turns_from-stop (1000000 - length done) names index test next value t
@@ -85,7 +87,8 @@ module _ (names : Names) (index : Name) (start test next : Expr) where
       let g : ((constant_value (at value) test == 0) ≡ false) × IsIndex (at value) next n = k.goes n refl in record {
         rest = s.rest ∙ ap (λ zs. done ++ zs) (rest_more done value n h g.0 g.1.is) ∙
             sym (append_assoc done (value ∷ []) (turns_from (1000001 - length (done ++ value ∷ [])) names index test next n));
-        chain = ap (λ zs. index_value names start ∷ zs) (map-join after done (value ∷ [])) ∙ ap (λ zs. zs ++ after value ∷ []) s.chain ∙ ap (λ z. (done ++ value ∷ []) ++ z ∷ []) (sym g.1.is);
+        chain = ap (λ zs. index_value names start ∷ zs) (map-join after done (value ∷ [])) ∙ ap (λ zs. zs ++ after value ∷ []) s.chain ∙
+            ap (λ z. (done ++ value ∷ []) ++ z ∷ []) (sym g.1.is);
         first = s.first;
         tests = clean_more (λ k. test_sites (at k) test) done value s.tests k.clean;
         nexts = clean_more (λ k. next_sites (at k) next) done value s.nexts g.1.clean;
@@ -98,20 +101,25 @@ module _ (names : Names) (index : Name) (start test next : Expr) where
 
   -- the header with these turns
   abbrev sites_by : List ℕ → List Site
-  sites_by ks = next_sites names start ++ flat_map (λ k. test_sites (at k) test) (index_value names start ∷ map after ks) ++ flat_map (λ k. next_sites (at k) next) ks
+  sites_by ks = next_sites names start ++ flat_map (λ k. test_sites (at k) test) (index_value names start ∷ map after ks) ++ flat_map
+      (λ k. next_sites (at k) next) ks
 
-  pub ends : (most : ℕ) (done : List ℕ) (value : ℕ) → IsSoFar names index start test next done value → length done ≤ 1000000 → length done ≤ most → IsStep (at value) test next None →
+  pub ends : (most : ℕ) (done : List ℕ) (value : ℕ) → IsSoFar names index start test next done value → length done ≤ 1000000 → length done ≤ most →
+      IsStep (at value) test next None →
       AreTurns names index start test next most done
   ends most done value s h l k =
       let e : turns names index start test next ≡ done = s.rest ∙ ap (λ zs. done ++ zs) (rest_none done value h (k.ends refl)) ∙ append-none done in record {
         are = sym e;
         few = l;
         clean = subst (λ ks. AreClean (sites_by ks)) (sym e)
-            (join_clean (next_sites names start ++ flat_map (λ k. test_sites (at k) test) (index_value names start ∷ map after done)) (flat_map (λ k. next_sites (at k) next) done)
-            (join_clean (next_sites names start) (flat_map (λ k. test_sites (at k) test) (index_value names start ∷ map after done)) s.first (all_tests done value s k.clean)) s.nexts);
+            (join_clean (next_sites names start ++ flat_map (λ k. test_sites (at k) test) (index_value names start ∷ map after done))
+            (flat_map (λ k. next_sites (at k) next) done)
+            (join_clean (next_sites names start) (flat_map (λ k. test_sites (at k) test) (index_value names start ∷ map after done)) s.first
+            (all_tests done value s k.clean)) s.nexts);
       }
 
-  pub over : (most : ℕ) (done : List ℕ) (value : ℕ) → IsSoFar names index start test next done value → length done ≡ most + 1 → most < length (turns names index start test next)
+  pub over : (most : ℕ) (done : List ℕ) (value : ℕ) → IsSoFar names index start test next done value → length done ≡ most + 1 →
+      most < length (turns names index start test next)
   over most done value s h =
       let l : length (turns names index start test next) ≡ length done + length (turns_from (1000001 - length done) names index test next value) =
       ap length s.rest ∙ length-append done (turns_from (1000001 - length done) names index test next value) in
@@ -122,30 +130,37 @@ module _ (names : Names) (index : Name) (start test next : Expr) where
       Told (flat_map (λ k. test_sites (at k) test) (index_value names start ∷ map after (done ++ ks))) y
   test_told done ks value y s h =
       let e : index_value names start ∷ map after (done ++ ks) ≡ done ++ value ∷ map after ks =
-      ap (λ zs. index_value names start ∷ zs) (map-join after done ks) ∙ ap (λ zs. zs ++ map after ks) s.chain ∙ append_assoc done (value ∷ []) (map after ks) in
+      ap (λ zs. index_value names start ∷ zs) (map-join after done ks) ∙ ap (λ zs. zs ++ map after ks) s.chain ∙
+      append_assoc done (value ∷ []) (map after ks) in
       subst (λ zs. Told (flat_map (λ k. test_sites (at k) test) zs) y) (sym e) (told_at (λ k. test_sites (at k) test) done value (map after ks) y h)
 
-  pub fails : (done : List ℕ) (value : ℕ) (y : ConstError) → IsSoFar names index start test next done value → length done ≤ 1000000 → IsStepFault (at value) test next y →
+  pub fails : (done : List ℕ) (value : ℕ) (y : ConstError) → IsSoFar names index start test next done value → length done ≤ 1000000 →
+      IsStepFault (at value) test next y →
       Told (header_sites names index start test next) y
   fails done value y s h (inl k) =
       let ks : List ℕ = turns_from (1000001 - length done) names index test next value in
       subst (λ zs. Told (sites_by zs) y) (sym s.rest)
-      (told-first (next_sites names start ++ flat_map (λ k. test_sites (at k) test) (index_value names start ∷ map after (done ++ ks))) (flat_map (λ k. next_sites (at k) next) (done ++ ks)) y
-      (told-second (next_sites names start) (flat_map (λ k. test_sites (at k) test) (index_value names start ∷ map after (done ++ ks))) y (test_told done ks value y s k)))
+      (told-first (next_sites names start ++ flat_map (λ k. test_sites (at k) test) (index_value names start ∷ map after (done ++ ks)))
+      (flat_map (λ k. next_sites (at k) next) (done ++ ks)) y
+      (told-second (next_sites names start) (flat_map (λ k. test_sites (at k) test) (index_value names start ∷ map after (done ++ ks))) y
+      (test_told done ks value y s k)))
   fails done value y s h (inr k) =
       let ks : List ℕ = turns_from (1000001 - length (done ++ value ∷ [])) names index test next (after value) in
       let e : turns names index start test next ≡ done ++ value ∷ ks = s.rest ∙ ap (λ zs. done ++ zs) (rest_more done value (after value) h k.0 refl) in
       subst (λ zs. Told (sites_by zs) y) (sym e)
-      (told-second (next_sites names start ++ flat_map (λ k. test_sites (at k) test) (index_value names start ∷ map after (done ++ value ∷ ks))) (flat_map (λ k. next_sites (at k) next) (done ++ value ∷ ks)) y
+      (told-second (next_sites names start ++ flat_map (λ k. test_sites (at k) test) (index_value names start ∷ map after (done ++ value ∷ ks)))
+      (flat_map (λ k. next_sites (at k) next) (done ++ value ∷ ks)) y
       (told_at (λ k. next_sites (at k) next) done value ks y k.1))
 
   pub start_told : (y : ConstError) → Told (next_sites names start) y → Told (header_sites names index start test next) y
   start_told y h =
       let ks : List ℕ = turns names index start test next in
-      told-first (next_sites names start ++ flat_map (λ k. test_sites (at k) test) (index_value names start ∷ map after ks)) (flat_map (λ k. next_sites (at k) next) ks) y
+      told-first (next_sites names start ++ flat_map (λ k. test_sites (at k) test) (index_value names start ∷ map after ks))
+      (flat_map (λ k. next_sites (at k) next) ks) y
       (told-first (next_sites names start) (flat_map (λ k. test_sites (at k) test) (index_value names start ∷ map after ks)) y h)
 
-  pub no_turns : (most : ℕ) (done : List ℕ) (value : ℕ) (y : TurnsError) → IsSoFar names index start test next done value → length done ≤ 1000000 → IsTurnFault (at value) test next y →
+  pub no_turns : (most : ℕ) (done : List ℕ) (value : ℕ) (y : TurnsError) → IsSoFar names index start test next done value → length done ≤ 1000000 →
+      IsTurnFault (at value) test next y →
       AreNoTurns names index start test next most y
   no_turns most done value (t.Const y) s h k = fails done value y s h k
   no_turns most done value t.Limit s h k = absurd k

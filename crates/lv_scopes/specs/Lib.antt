@@ -1,5 +1,6 @@
 pub mod Headers
 pub mod Modules
+pub mod NameLists
 pub mod Numbers
 pub mod Parameters
 pub mod Params

@@ -34,4 +34,5 @@ pub record IsUnsetIn (names : Names) (ps : Params) (y : ParameterError) : Type 0
 pub record AreSetSoFar (old new : List Entry) (ps : Params) (k : ℕ) : Type 0 where
   pub longer : (es : List Entry) × (new ≡ old ++ es)
   pub named : names_of new ≡ names_before (names_of old) ps k
-  pub sound : (j : ℕ) (s : Setting) → j < k → slice_get ps.list j ≡ Some s → IsSound (names_before (names_of old) ps j) (names_before (names_of old) ps j) ps.range s.value
+  pub sound : (j : ℕ) (s : Setting) → j < k → slice_get ps.list j ≡ Some s →
+      IsSound (names_before (names_of old) ps j) (names_before (names_of old) ps j) ps.range s.value

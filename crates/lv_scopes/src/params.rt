@@ -18,7 +18,13 @@ pub fn set_params(consts: &mut Consts, params: &Params) -> Result<(), ParameterE
 {
     let len = consts.len();
     for setting in params.list.as_slice() {
-        match set_own(consts, &setting.name, params.signed, &params.range, setting.value.get()) {
+        match set_own(
+            consts,
+            &setting.name,
+            params.signed,
+            &params.range,
+            setting.value.get(),
+        ) {
             Ok(()) => {}
             Err(error) => {
                 consts.cut(len);

@@ -18,7 +18,8 @@ loop-setting-preserved c =
     (subst (λ xs. s ≡ get_or xs c.loop-setting.setting-index s) c.as_slice-setting-items.ensures c.setting-item.is)
     c.set_own.new.consts c.in-Ok.ensures.added
     (subst (λ v. names_of c.set_own.new.consts ≡
-    with_name (names_of c.loop-setting.consts) s.name.name (Some (parameter (names_of c.loop-setting.consts) s.name c.args.params.now.signed c.args.params.now.range (names_of c.loop-setting.consts) v)))
+    with_name (names_of c.loop-setting.consts) s.name.name
+    (Some (parameter (names_of c.loop-setting.consts) s.name c.args.params.now.signed c.args.params.now.range (names_of c.loop-setting.consts) v)))
     c.get.ensures c.in-Ok.ensures.named)
     (subst (λ v. IsSound (names_of c.loop-setting.consts) (names_of c.loop-setting.consts) c.args.params.now.range v) c.get.ensures c.in-Ok.ensures.sound)
 
@@ -29,7 +30,8 @@ returns-in-Err-clause-wrong c =
     (subst (λ xs. c.loop-setting.setting-index < length xs) c.as_slice-setting-items.ensures c.loop-setting-test.true)
     (subst (λ xs. s ≡ get_or xs c.loop-setting.setting-index s) c.as_slice-setting-items.ensures c.setting-item.is)
     c.in-Err.error
-    (subst (λ v. IsUnset (names_of c.loop-setting.consts) (names_of c.loop-setting.consts) c.args.params.now.range v s.name.place c.in-Err.error) c.get.ensures c.in-Err.ensures.wrong)
+    (subst (λ v. IsUnset (names_of c.loop-setting.consts) (names_of c.loop-setting.consts) c.args.params.now.range v s.name.place c.in-Err.error)
+    c.get.ensures c.in-Err.ensures.wrong)
 
 pub returns-clause-named : goal.returns-clause-named
 returns-clause-named c =

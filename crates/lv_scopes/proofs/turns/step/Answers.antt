@@ -5,4 +5,8 @@ pub returns-in-Err : goal.returns-in-Err
 returns-in-Err c = record { right = tt; wrong = inl c.in-Err.ensures.wrong }
 
 pub returns-in-Err-index_number : goal.returns-in-Err-index_number
-returns-in-Err-index_number c = record { right = tt; wrong = inr (sym c.in-Ok-false.ensures.right.is ∙ c.in-Ok-false.field-0-test, c.in-Err-index_number.ensures.wrong) }
+returns-in-Err-index_number c = record {
+  right = tt;
+  wrong = inr
+      (sym c.in-Ok-false.ensures.right.is ∙ c.in-Ok-false.field-0-test, c.in-Err-index_number.ensures.wrong);
+}

@@ -9,7 +9,8 @@ pub loop-init : goal.loop-init
 loop-init c = (
   ap length c.new-turns.ensures,
   refl,
-  subst (λ ts. IsSoFar (names_of c.args.consts.now) c.args.index.now c.args.start.now c.args.test.now c.args.next.now ts c.in-Ok.value) (sym c.new-turns.ensures)
+  subst (λ ts. IsSoFar (names_of c.args.consts.now) c.args.index.now c.args.start.now c.args.test.now c.args.next.now ts c.in-Ok.value)
+      (sym c.new-turns.ensures)
       (begin (names_of c.args.consts.now) c.args.index.now c.args.start.now c.args.test.now c.args.next.now c.in-Ok.value c.in-Ok.ensures.right),
 )
 
@@ -17,18 +18,22 @@ pub returns-in-Err-turn-clause-right : goal.returns-in-Err-turn-clause-right
 returns-in-Err-turn-clause-right c =
     let few : length c.loop.turns ≤ 1000000 = omega arith in record {
       right = tt;
-      wrong = no_turns (names_of c.args.consts.now) c.args.index.now c.args.start.now c.args.test.now c.args.next.now c.args.most c.loop.turns c.loop.value c.in-Err-turn.error
+      wrong = no_turns (names_of c.args.consts.now) c.args.index.now c.args.start.now c.args.test.now c.args.next.now c.args.most c.loop.turns c.loop.value
+          c.in-Err-turn.error
           c.loop.invariant.2 few
-          (subst (λ es. IsTurnFault (with_index (names_of es) c.args.index.now c.loop.value) c.args.test.now c.args.next.now c.in-Err-turn.error) c.loop.invariant.1 c.in-Err-turn.ensures.right.wrong);
+          (subst (λ es. IsTurnFault (with_index (names_of es) c.args.index.now c.loop.value) c.args.test.now c.args.next.now c.in-Err-turn.error)
+          c.loop.invariant.1 c.in-Err-turn.ensures.right.wrong);
     }
 
 pub returns-in-Ok-None-clause-right : goal.returns-in-Ok-None-clause-right
 returns-in-Ok-None-clause-right c =
     let few : length c.loop.turns ≤ 1000000 = omega arith in
     let most : length c.loop.turns ≤ c.args.most = omega arith in record {
-      right = ends (names_of c.args.consts.now) c.args.index.now c.args.start.now c.args.test.now c.args.next.now c.args.most c.loop.turns c.loop.value c.loop.invariant.2 few most
+      right = ends (names_of c.args.consts.now) c.args.index.now c.args.start.now c.args.test.now c.args.next.now c.args.most c.loop.turns c.loop.value
+          c.loop.invariant.2 few most
           (subst (λ o. IsStep (with_index (names_of c.args.consts.now) c.args.index.now c.loop.value) c.args.test.now c.args.next.now o) c.in-Ok-None.field-0-is
-          (subst (λ es. IsStep (with_index (names_of es) c.args.index.now c.loop.value) c.args.test.now c.args.next.now c.in-Ok-None.field-0) c.loop.invariant.1 c.in-Ok-None.ensures.right.right));
+          (subst (λ es. IsStep (with_index (names_of es) c.args.index.now c.loop.value) c.args.test.now c.args.next.now c.in-Ok-None.field-0)
+          c.loop.invariant.1 c.in-Ok-None.ensures.right.right));
       wrong = tt;
     }
 
@@ -39,7 +44,9 @@ loop-preserved c =
       ap length p ∙ length-append c.loop.turns (c.loop.value ∷ []) ∙ ap (λ n. n + 1) c.loop.invariant.0,
       c.turn.ensures.same ∙ c.loop.invariant.1,
       subst (λ ts. IsSoFar (names_of c.args.consts.now) c.args.index.now c.args.start.now c.args.test.now c.args.next.now ts c.in-Ok-Some.after) (sym p)
-          (more (names_of c.args.consts.now) c.args.index.now c.args.start.now c.args.test.now c.args.next.now c.loop.turns c.loop.value c.in-Ok-Some.after c.loop.invariant.2 few
+          (more (names_of c.args.consts.now) c.args.index.now c.args.start.now c.args.test.now c.args.next.now c.loop.turns c.loop.value c.in-Ok-Some.after
+          c.loop.invariant.2 few
           (subst (λ o. IsStep (with_index (names_of c.args.consts.now) c.args.index.now c.loop.value) c.args.test.now c.args.next.now o) c.in-Ok-Some.field-0-is
-          (subst (λ es. IsStep (with_index (names_of es) c.args.index.now c.loop.value) c.args.test.now c.args.next.now c.in-Ok-Some.field-0) c.loop.invariant.1 c.in-Ok-Some.ensures.right.right))),
+          (subst (λ es. IsStep (with_index (names_of es) c.args.index.now c.loop.value) c.args.test.now c.args.next.now c.in-Ok-Some.field-0)
+          c.loop.invariant.1 c.in-Ok-Some.ensures.right.right))),
     )

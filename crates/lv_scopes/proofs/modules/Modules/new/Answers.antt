@@ -15,8 +15,10 @@ returns-then-not-added-clause-wrong c =
     let b : list_any (λ k. bytes_eq c.in-Ok.name.items k.items) c.loop-module.names.keys ≡ true =
     present c.in-Ok-insert_full.added _ c.in-Ok-insert_full.ensures.added c.if-not-added.true in
     let t : has ms (module_name n) ≡ true =
-    ap (has ms) (sym (c.in-Ok.ensures.items ∙ c.bytes.ensures)) ∙ sym (keys_have (λ k. k.items) c.loop-module.names.keys ms c.in-Ok.name.items c.loop-module.invariant.0) ∙ b in
-    subst (λ xs. Contains (modules_again xs) (at_top n.name.place)) (sym (parted c.args.modules.now c.loop-module.module-index n c.loop-module-test.true c.module-item.is))
+    ap (has ms) (sym (c.in-Ok.ensures.items ∙ c.bytes.ensures)) ∙
+    sym (keys_have (λ k. k.items) c.loop-module.names.keys ms c.in-Ok.name.items c.loop-module.invariant.0) ∙ b in
+    subst (λ xs. Contains (modules_again xs) (at_top n.name.place))
+    (sym (parted c.args.modules.now c.loop-module.module-index n c.loop-module-test.true c.module-item.is))
     (again_told ms n (drop (c.loop-module.module-index + 1) c.args.modules.now) t)
 
 pub loop-module-preserved : goal.loop-module-preserved
@@ -28,7 +30,8 @@ loop-module-preserved c =
     absent c.in-Ok-insert_full.added _ c.in-Ok-insert_full.ensures.added c.if-not-added.false in
     let t : has ms (module_name n) ≡ false =
     ap (has ms) (sym e) ∙ sym (keys_have (λ k. k.items) c.loop-module.names.keys ms c.in-Ok.name.items c.loop-module.invariant.0) ∙ b in
-    let more : take (c.loop-module.module-index + 1) c.args.modules.now ≡ ms ++ n ∷ [] = take_next c.args.modules.now c.loop-module.module-index n c.loop-module-test.true c.module-item.is in (
+    let more : take (c.loop-module.module-index + 1) c.args.modules.now ≡ ms ++ n ∷ [] =
+    take_next c.args.modules.now c.loop-module.module-index n c.loop-module-test.true c.module-item.is in (
       ap (map (λ k. k.items)) (pushed c.loop-module.names.keys c.insert_full.new.self.keys c.in-Ok.name _ b c.in-Ok-insert_full.ensures.keys) ∙
           map-join (λ k. k.items) c.loop-module.names.keys (c.in-Ok.name ∷ []) ∙
           ap (λ zs. zs ++ c.in-Ok.name.items ∷ []) c.loop-module.invariant.0 ∙ ap (λ z. map module_name ms ++ z ∷ []) e ∙

@@ -1,11 +1,11 @@
 -- Choices of a graph that grows.
-use Rattle.std.proofs.Common.{ℕ, ◌<◌, List, length, ◌∙◌, ap, arith}
+use Rattle.std.proofs.Common.{ℕ, List, ◌∙◌, ap, arith}
 use Rattle.lv_netlist.specs.Net.{Net}
 use Rattle.lv_netlist.specs.declared.node.Typed.{Typed}
 use Rattle.lv_values.specs.declared.value.Value.{Value}
 use Rattle.lv_values.specs.declared.index.Choices.{Choices}
 use Rattle.lv_values.specs.declared.index.Choices.TheVariants.{Elements, Read, Write}
-use Rattle.lv_values.specs.Worlds.{Grows, IsIn}
+use Rattle.lv_values.specs.Worlds.{Grows}
 use Rattle.lv_values.specs.Picked.{AreElements, IsVector, AreChoices}
 use Rattle.lv_values.proofs.Growth.{in-later}
 

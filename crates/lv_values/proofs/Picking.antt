@@ -1,23 +1,20 @@
 -- A choice by the bits of an index, one level of a tree after another.
-use Rattle.std.proofs.Common.{◌≡◌, ℕ, zero, suc, ◌+◌, ◌-◌, ◌*◌, ◌/◌, ◌%◌, ◌^◌, ◌<◌, ◌≤◌, ◌==◌, ◌⊎◌, inl, inr, Bool, true, false, not, List, [], ◌∷◌, ◌++◌, length, map, refl, sym, ◌∙◌, ap, subst, arith, Option, Some, None, ℤ, pos, negsuc, ◌+ℤ◌, add-one, length-append}
+use Rattle.std.proofs.Common.{◌≡◌, ℕ, zero, suc, ◌+◌, ◌-◌, ◌*◌, ◌/◌, ◌%◌, ◌^◌, ◌<◌, ◌≤◌, ◌==◌, ◌⊎◌, inl, inr, Bool, true, false, List, [], ◌∷◌, ◌++◌, length, map, refl, sym, ◌∙◌, ap, subst, arith, None, ℤ, pos, negsuc, length-append}
 use Rattle.std.specs.Prelude.{if◌then◌else◌, nat_lt, ◌-ℤ◌, slice_get, slice_index_or}
 use Rattle.std.proofs.lemmas.Nat.{pow_pos, mod-pow-add, one_shl}
 use Rattle.lv_bits.proofs.Shifts.{pow_le}
 use Rattle.std.proofs.lemmas.Bool.Decides.{nat_tests}
 use Rattle.std.proofs.lemmas.Bool.{cases_lt}
-use Rattle.std.proofs.lemmas.Int.{ints}
 use Rattle.std.proofs.lemmas.List.{append-nil, get_or_append_left, get_or_at}
 use Rattle.std.proofs.Math.Nat.{mod-lt, pow-suc}
-use Rattle.lv_bits.specs.Values.{signed_of}
 use Rattle.lv_netlist.specs.Net.{Net}
 use Rattle.lv_source.specs.Names.{Bounds, low, high}
 use Rattle.lv_source.specs.Places.{falls, rising, bits_from, read_bits, write_bits}
 use Rattle.lv_values.specs.declared.value.Value.{Value}
-use Rattle.lv_values.specs.declared.index.Choices.{Choices}
 use Rattle.lv_values.specs.declared.index.Choices.TheVariants.{Elements, Read, Write}
 use Rattle.lv_values.specs.Worlds.{World, Obeys, Grows, Gives, IsIn, width_of, number}
-use Rattle.lv_values.specs.Windows.{nones, run, number_in}
-use Rattle.lv_values.specs.Picked.{code_number, node_value, element_value, item_value, other_value, item_width, MissesFrom, Misses, AreOutside, AreElements, AreChoices, AreBits, IsVector}
+use Rattle.lv_values.specs.Windows.{nones, number_in}
+use Rattle.lv_values.specs.Picked.{code_number, node_value, element_value, MissesFrom, Misses, AreOutside, AreBits}
 use Rattle.lv_values.proofs.Bits.{read_nones, write_nones}
 use Rattle.lv_values.proofs.Growth.{grows-trans, obeys-before, in-later, gives-is}
 use Rattle.lv_values.proofs.Windows.{above, below, negative, through, falling_bits, rising_bits}

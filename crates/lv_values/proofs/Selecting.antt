@@ -1,12 +1,12 @@
 -- What reading and writing the bits of a window give, from the parts of words.
-use Rattle.std.proofs.Common.{◌≡◌, ℕ, zero, suc, ◌+◌, ◌-◌, ◌*◌, ◌/◌, ◌%◌, ◌^◌, ◌<◌, ◌≤◌, refl, sym, ◌∙◌, ap, subst, arith}
+use Rattle.std.proofs.Common.{◌≡◌, ℕ, ◌+◌, ◌-◌, ◌*◌, ◌/◌, ◌%◌, ◌^◌, ◌<◌, ◌≤◌, refl, sym, ◌∙◌, ap, subst, arith}
 use Rattle.std.proofs.Math.Nat.{mod-eq_of_lt, div-eq_of_lt, mod-lt}
 use Rattle.std.proofs.lemmas.Nat.{pow_pos, shr_below, shr_split}
 use Rattle.lv_netlist.specs.Net.{Net}
 use Rattle.lv_source.specs.Places.{read_bits, write_bits}
 use Rattle.lv_values.specs.declared.value.Value.{Value}
 use Rattle.lv_values.specs.declared.value.Value.TheVariants.{Known}
-use Rattle.lv_values.specs.Worlds.{World, Obeys, Gives, IsIn, width_of, number}
+use Rattle.lv_values.specs.Worlds.{Obeys, Gives, IsIn, width_of, number}
 use Rattle.lv_values.specs.Windows.{run, replaced}
 use Rattle.lv_values.proofs.Bits.{read_run, write_run}
 use Rattle.lv_values.proofs.Growth.{grows-refl, grows-trans, obeys-before, number-lt, gives-same, gives-is}

@@ -1,10 +1,10 @@
 -- Numbers that follow one another, by the bounds of a declaration, and the places of the bits with these numbers.
-use Rattle.std.proofs.Common.{◌≡◌, ℕ, zero, suc, ◌+◌, ◌-◌, ◌<◌, ◌≤◌, Bool, true, false, not, ◌&&◌, List, [], ◌∷◌, ◌++◌, map, refl, sym, ◌∙◌, ap, subst, arith, Option, Some, None, inl, inr, ℤ, pos, negsuc, ◌+ℤ◌, append_assoc}
+use Rattle.std.proofs.Common.{◌≡◌, ℕ, zero, suc, ◌+◌, ◌-◌, ◌<◌, ◌≤◌, Bool, true, false, not, ◌&&◌, List, [], ◌∷◌, ◌++◌, map, refl, sym, ◌∙◌, ap, subst, arith, Option, Some, None, ℤ, pos, negsuc, ◌+ℤ◌, append_assoc}
 use Rattle.std.specs.Prelude.{reverse, nat_lt, if◌then◌else◌, min, max}
 use Rattle.std.proofs.lemmas.List.{reverse-append, map-append, append-nil}
 use Rattle.std.proofs.lemmas.Bool.Decides.{nat_tests}
 use Rattle.std.proofs.lemmas.Int.{ints}
-use Rattle.lv_source.specs.Names.{Bounds, low, high, size}
+use Rattle.lv_source.specs.Names.{Bounds, low, high}
 use Rattle.lv_source.specs.Places.{falls, within, rising, bit_place, bits_from}
 use Rattle.lv_values.specs.Windows.{nones, somes, run, number_in}
 

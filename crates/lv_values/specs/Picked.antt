@@ -1,12 +1,11 @@
 -- What stands at each value of an index.
-use Rattle.std.specs.Prelude.{◌≡◌, ℕ, suc, ◌⊎◌, ◌+◌, ◌-◌, ◌*◌, ◌/◌, ◌%◌, ◌^◌, ◌<◌, ◌≤◌, nat_lt, Bool, if◌then◌else◌, List, length, slice_index_or, slice_get, Option, Some, None, ℤ, pos, negsuc, ◌-ℤ◌}
+use Rattle.std.specs.Prelude.{◌≡◌, ℕ, suc, ◌⊎◌, ◌+◌, ◌-◌, ◌/◌, ◌%◌, ◌^◌, ◌<◌, ◌≤◌, nat_lt, Bool, if◌then◌else◌, List, length, slice_index_or, slice_get, Option, Some, None, ℤ, pos, negsuc, ◌-ℤ◌}
 use Rattle.lv_bits.specs.Values.{signed_of}
 use Rattle.lv_netlist.specs.Net.{Net, width_at}
 use Rattle.lv_netlist.specs.Run.{bits_at}
 use Rattle.lv_source.specs.Names.{size}
 use Rattle.lv_source.specs.Places.{bits_from, read_bits, write_bits}
 use Rattle.lv_values.specs.declared.value.Value.{Value}
-use Rattle.lv_values.specs.declared.value.Value.TheVariants.{Known}
 use Rattle.lv_values.specs.declared.index.Choices.{Choices}
 use Rattle.lv_values.specs.declared.index.Choices.TheVariants.{Elements, Read, Write}
 use Rattle.lv_values.specs.declared.window.Number.{Number}

@@ -1,6 +1,5 @@
 -- Bits that follow one another, by their places in a word: some below it, some inside, some above.
-use Rattle.std.specs.Prelude.{◌≡◌, ℕ, zero, suc, ◌+◌, ◌-◌, ◌*◌, ◌/◌, ◌%◌, ◌^◌, ◌<◌, ◌≤◌, if◌then◌else◌, List, [], ◌∷◌, ◌++◌, map, Option, Some, None, ℤ, pos, negsuc}
-use Rattle.lv_bits.specs.Values.{signed_of}
+use Rattle.std.specs.Prelude.{◌≡◌, ℕ, zero, suc, ◌+◌, ◌*◌, ◌/◌, ◌%◌, ◌^◌, ◌≤◌, if◌then◌else◌, List, [], ◌∷◌, ◌++◌, map, Option, Some, None, ℤ, pos, negsuc}
 use Rattle.lv_source.specs.Names.{Bounds, size}
 use Rattle.lv_source.specs.Places.{within, rising, bits_from}
 use Rattle.lv_values.specs.declared.window.Number.{Number}

@@ -1,7 +1,7 @@
-use Rattle.std.proofs.Common.{arith, subst, sym, ap, refl, ◌∙◌}
+use Rattle.std.proofs.Common.{subst, sym}
 use Rattle.lv_values.specs.declared.index.Choices.{Choices}
-use Rattle.lv_values.specs.Picked.{HasElements, AreOutside}
-use Rattle.lv_values.proofs.Picking.{elements_outside, read_outside, write_outside}
+use Rattle.lv_values.specs.Picked.{AreOutside}
+use Rattle.lv_values.proofs.Picking.{read_outside, write_outside}
 use Rattle.lv_values.proofs.index.is_outside.Goals as goal
 
 pub returns-in-Read : goal.returns-in-Read

@@ -1,8 +1,7 @@
-use Rattle.std.proofs.Common.{refl, sym, ap, subst, ◌∙◌}
+use Rattle.std.proofs.Common.{sym, ap, subst, ◌∙◌}
 use Rattle.lv_source.specs.Names.{Bounds}
 use Rattle.lv_source.specs.Places.{bits_from, read_bits, write_bits}
 use Rattle.lv_values.specs.declared.index.Choices.{Choices}
-use Rattle.lv_values.specs.declared.index.Choices.TheVariants.{Read, Write}
 use Rattle.lv_values.specs.Worlds.{Gives, width_of, number}
 use Rattle.lv_values.specs.Windows.{integer, window_bits}
 use Rattle.lv_values.specs.Picked.{item_width, item_value}

@@ -1,7 +1,6 @@
-use Rattle.std.proofs.Common.{ℕ, ◌≡◌, ◌+◌, ◌%◌, ◌^◌, refl, sym, ap, arith, ◌∙◌, pos}
+use Rattle.std.proofs.Common.{ℕ, ◌≡◌, ◌+◌, ◌%◌, ◌^◌, sym, ap, arith, ◌∙◌, pos}
 use Rattle.std.specs.Prelude.{◌-ℤ◌}
 use Rattle.std.proofs.Math.Nat.{mod-eq_of_lt}
-use Rattle.lv_values.specs.declared.value.Value.{Value}
 use Rattle.lv_values.specs.Worlds.{width_of, number}
 use Rattle.lv_values.specs.Picked.{code_number, item_value}
 use Rattle.lv_values.proofs.Growth.{grows-trans, obeys-before, number-lt}

@@ -1,4 +1,4 @@
-use Rattle.std.proofs.Common.{sym, ap, arith, ◌-◌, ◌∙◌}
+use Rattle.std.proofs.Common.{ap, arith, ◌-◌}
 use Rattle.lv_values.proofs.Selecting.{high_some}
 use Rattle.lv_values.proofs.select.below_high.Goals as goal
 

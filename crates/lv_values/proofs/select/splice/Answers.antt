@@ -1,4 +1,4 @@
-use Rattle.std.proofs.Common.{sym, ap, arith, subst, ◌*◌, ◌+◌, ◌%◌, ◌^◌}
+use Rattle.std.proofs.Common.{subst, ◌*◌, ◌+◌, ◌%◌, ◌^◌}
 use Rattle.lv_values.specs.declared.value.Value.{Value}
 use Rattle.lv_values.specs.Worlds.{Gives, width_of, number}
 use Rattle.lv_values.proofs.Selecting.{splice_some}

@@ -1,7 +1,6 @@
-use Rattle.std.proofs.Common.{arith, refl, sym, ap, ◌∙◌, ◌+◌, ◌-◌, ◌++◌, map, pos, negsuc, suc, subst, ℤ, ℕ, ◌≡◌}
-use Rattle.lv_source.specs.Places.{rising}
+use Rattle.std.proofs.Common.{arith, sym, ◌∙◌, ◌+◌, ◌-◌, subst, ℕ}
 use Rattle.lv_values.specs.declared.window.Number.{Number}
-use Rattle.lv_values.specs.Windows.{IsInside, integer, number_in, run, nones}
+use Rattle.lv_values.specs.Windows.{IsInside, integer}
 use Rattle.lv_values.proofs.Windows.{above, negative, through_more, all_before}
 use Rattle.lv_values.proofs.window.numbers_inside.Goals as goal
 

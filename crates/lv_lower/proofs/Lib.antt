@@ -1,0 +1,12 @@
+pub mod Arms
+pub mod Chosen
+pub mod Elements
+pub mod Joining
+pub mod Meant
+pub mod Naming
+pub mod Owns
+pub mod Parts
+pub mod Values
+pub mod Wholes
+pub mod Widths
+pub mod Words

@@ -1,0 +1,4 @@
+pub mod Divided
+pub mod Named
+pub mod Reached
+pub mod Tables

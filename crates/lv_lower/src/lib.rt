@@ -1,0 +1,9 @@
+//! The meaning of a flat source as a graph.
+#![tactic(auto)]
+
+mod divide;
+mod expr;
+mod own;
+mod reach;
+
+pub use expr::value;

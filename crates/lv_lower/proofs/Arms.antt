@@ -1,5 +1,5 @@
 -- What the parts of an expression give together, over a table.
-use Rattle.std.proofs.Common.{◌≡◌, ℕ, zero, suc, ◌+◌, ◌*◌, ◌<◌, ◌≤◌, ◌^◌, Bool, List, [], ◌∷◌, length, map, take, refl, sym, ◌∙◌, ap, subst, arith, get_or, add-one}
+use Rattle.std.proofs.Common.{◌≡◌, ℕ, ◌+◌, ◌*◌, ◌<◌, ◌^◌, Bool, List, [], ◌∷◌, length, map, take, refl, sym, ◌∙◌, ap, arith, get_or}
 use Rattle.lv_bits.specs.Values.{extended}
 use Rattle.lv_netlist.specs.Net.{Net}
 use Rattle.lv_source.specs.Names.{Valuation}
@@ -10,9 +10,9 @@ use Rattle.lv_flat.specs.Signals.{Signals}
 use Rattle.lv_flat.specs.Judged.{meaning}
 use Rattle.lv_values.specs.declared.value.Value.{Value}
 use Rattle.lv_values.specs.declared.value.Value.TheVariants.{Known, Node}
-use Rattle.lv_values.specs.Worlds.{World, Obeys, Grows, Gives, IsIn, IsKnown, width_of, number}
+use Rattle.lv_values.specs.Worlds.{World, Gives, IsIn, IsKnown, width_of, number}
 use Rattle.lv_values.proofs.Growth.{grows-trans, obeys-before}
-use Rattle.lv_lower.specs.Tables.{Shows, Means}
+use Rattle.lv_lower.specs.Tables.{Means}
 use Rattle.lv_lower.specs.Divided.{known_of}
 use Rattle.lv_lower.proofs.Meant.{means-same, means-one, means-two}
 use Rattle.lv_lower.proofs.Joining.{widths-more, joined-more, one-more}

@@ -1,19 +1,17 @@
 -- What is chosen by an index, and of a word, over a table.
-use Rattle.std.proofs.Common.{◌≡◌, ℕ, ◌+◌, ◌<◌, ◌≤◌, ◌^◌, Bool, List, length, refl, sym, ◌∙◌, ap, subst, arith, ℤ, pos}
-use Rattle.std.specs.Prelude.{if◌then◌else◌, ◌-ℤ◌}
-use Rattle.lv_bits.specs.Values.{extended, signed_of}
+use Rattle.std.proofs.Common.{◌≡◌, ℕ, ◌<◌, ◌^◌, Bool, List, ◌∙◌, ap, subst, ℤ, pos}
+use Rattle.std.specs.Prelude.{◌-ℤ◌}
+use Rattle.lv_bits.specs.Values.{extended}
 use Rattle.lv_netlist.specs.Net.{Net}
-use Rattle.lv_netlist.specs.declared.node.Typed.{Typed}
 use Rattle.lv_source.specs.Names.{Valuation}
 use Rattle.lv_source.specs.Values.{Meaning, own_value, number_of}
 use Rattle.lv_flat.specs.Cells.{Cell}
 use Rattle.lv_values.specs.declared.value.Value.{Value}
 use Rattle.lv_values.specs.declared.index.Choices.{Choices}
-use Rattle.lv_values.specs.declared.index.Choices.TheVariants.{Elements, Read, Write}
-use Rattle.lv_values.specs.Worlds.{World, Obeys, Grows, Gives, IsIn, width_of, number}
-use Rattle.lv_values.specs.Picked.{code_number, item_value, item_width, AreElements, IsVector, AreChoices}
-use Rattle.lv_values.proofs.Growth.{grows-trans, obeys-before, in-later, number-lt}
-use Rattle.lv_lower.specs.Tables.{IsTable, Shows, Means}
+use Rattle.lv_values.specs.Worlds.{Obeys, Gives, width_of, number}
+use Rattle.lv_values.specs.Picked.{code_number, item_value, item_width}
+use Rattle.lv_values.proofs.Growth.{grows-trans, obeys-before, number-lt}
+use Rattle.lv_lower.specs.Tables.{Means}
 use Rattle.lv_lower.specs.Named.{Selects, Stands}
 
 module _ {cells : List Cell} {table : List ℕ} where

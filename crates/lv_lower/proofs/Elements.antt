@@ -1,12 +1,11 @@
 -- The elements of an array as nodes of a table.
-use Rattle.std.proofs.Common.{◌≡◌, ℕ, zero, suc, ◌+◌, ◌-◌, ◌<◌, ◌≤◌, Bool, true, false, not, ◌&&◌, List, [], ◌∷◌, length, take, drop, refl, sym, ◌∙◌, ap, subst, arith, get_or, length-drop, Option, Some, None, ℤ, pos, negsuc}
-use Rattle.std.specs.Prelude.{if◌then◌else◌, nat_lt, slice_get, slice_index, slice_index_or, decimal}
+use Rattle.std.proofs.Common.{◌≡◌, ℕ, ◌+◌, ◌-◌, ◌<◌, ◌≤◌, true, false, not, ◌&&◌, List, length, take, drop, refl, sym, ◌∙◌, ap, subst, arith, get_or, length-drop, Some, ℤ, pos, negsuc}
+use Rattle.std.specs.Prelude.{if◌then◌else◌, nat_lt, slice_get, decimal}
 use Rattle.std.proofs.lemmas.Bool.Decides.{nat_tests}
 use Rattle.std.proofs.lemmas.List.{get_or-take, get_or-drop, length-take}
 use Rattle.std.proofs.lemmas.Option.{slice_get-get_or, slice_get_past}
 use Rattle.lv_ast.specs.Names.{at_index}
 use Rattle.lv_source.specs.Names.{Bounds, Declared, Valuation, width_of, is_signal_sort, low, high, size}
-use Rattle.lv_source.specs.Places.{within}
 use Rattle.lv_netlist.specs.Net.{Net, width_at}
 use Rattle.lv_flat.specs.Cells.{Cell, cell_at, all_cells}
 use Rattle.lv_flat.specs.Signals.{Signals, signal_at}

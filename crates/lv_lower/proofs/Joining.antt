@@ -1,13 +1,13 @@
 -- Expressions side by side: their widths together, and their bits.
-use Rattle.std.proofs.Common.{◌≡◌, ℕ, zero, suc, ◌+◌, ◌*◌, ◌^◌, ◌<◌, ◌≤◌, Bool, true, ◌&&◌, List, [], ◌∷◌, ◌++◌, length, map, take, refl, sym, ◌∙◌, ap, subst, arith, get_or, add-one}
+use Rattle.std.proofs.Common.{◌≡◌, ℕ, zero, suc, ◌+◌, ◌*◌, ◌^◌, ◌<◌, ◌≤◌, Bool, true, List, [], ◌∷◌, ◌++◌, length, map, take, refl, sym, ◌∙◌, ap, subst, arith, get_or, add-one}
 use Rattle.std.specs.Prelude.{sum, sum_by}
 use Rattle.std.specs.List.{list_all}
 use Rattle.std.proofs.Math.Seq.{take-suc}
 use Rattle.std.proofs.lemmas.Nat.{pow-add}
 use Rattle.std.proofs.lemmas.List.{map-append}
-use Rattle.std.proofs.lemmas.List.Sums.{sum-map, sum_by_push, sum_by_more, sum_by_more_le, sum_by-take-le}
+use Rattle.std.proofs.lemmas.List.Sums.{sum-map, sum_by_push, sum_by_more, sum_by_more_le}
 use Rattle.lv_source.specs.Names.{Valuation}
-use Rattle.lv_source.specs.Values.{Meaning, own_value, widths, joined, repeated}
+use Rattle.lv_source.specs.Values.{Meaning, own_value, widths, joined}
 use Rattle.lv_source.specs.Meaning.{Reading}
 use Rattle.lv_flat.specs.declared.expr.FlatExpr.{FlatExpr}
 use Rattle.lv_flat.specs.Signals.{Signals}

@@ -1,5 +1,5 @@
 -- Names with selects: their width, sign and value, by the word in which they stand.
-use Rattle.std.proofs.Common.{◌≡◌, ℕ, zero, suc, ◌+◌, ◌-◌, ◌*◌, ◌/◌, ◌%◌, ◌^◌, ◌<◌, ◌≤◌, Bool, true, false, not, ◌&&◌, ◌||◌, List, [], ◌∷◌, length, map, refl, sym, ◌∙◌, ap, subst, arith, Option, Some, None, ℤ, pos, negsuc}
+use Rattle.std.proofs.Common.{◌≡◌, ℕ, ◌-◌, ◌/◌, ◌^◌, ◌<◌, Bool, true, false, not, ◌&&◌, List, [], ◌∷◌, length, map, refl, sym, ◌∙◌, ap, subst, arith, Option, Some, None, ℤ, pos, negsuc}
 use Rattle.std.specs.Prelude.{if◌then◌else◌, decimal, min, ◌-ℤ◌}
 use Rattle.std.specs.List.{list_all}
 use Rattle.std.proofs.Math.Nat.{mod-eq_of_lt}
@@ -7,7 +7,7 @@ use Rattle.lv_bits.specs.Values.{extended}
 use Rattle.lv_ast.specs.Names.{Name, at_index}
 use Rattle.lv_ast.specs.declared.expr.Expr.TheOpen.{Select-F}
 use Rattle.lv_source.specs.Names.{Declared, Bounds, size, Valuation, Sort, Input, Net, Variable, Clock, Constant, Index, Other, is_constant_sort, width_of, low, high, is_signal_sort}
-use Rattle.lv_source.specs.Values.{Meaning, Chosen, nowhere, plain, number_of}
+use Rattle.lv_source.specs.Values.{Chosen, nowhere, number_of}
 use Rattle.lv_source.specs.Places.{Place, within, lowest, count_of, all_bits, bits_of, nowhere_place, element, place_by, place_of, bit_selects, held, read_bits, read}
 use Rattle.lv_source.specs.Meaning.{Reading, Choice, named, meant, is_nil, parts_of, all_constant}
 use Rattle.lv_source.specs.NodeRules.{is_array_fault, is_bit_step}

@@ -1,12 +1,12 @@
 -- What is known of the parts of a good expression.
-use Rattle.std.proofs.Common.{◌≡◌, ℕ, ◌≤◌, Bool, true, false, not, ◌&&◌, List, [], ◌∷◌, length, map, refl, sym, ◌∙◌, ap, arith, Option, Some, None}
+use Rattle.std.proofs.Common.{◌≡◌, ℕ, ◌≤◌, Bool, true, false, not, ◌&&◌, List, [], ◌∷◌, map, refl, sym, ◌∙◌, ap, arith}
 use Rattle.std.specs.Prelude.{nat_le}
 use Rattle.std.specs.List.{list_all}
 use Rattle.lv_bits.specs.declared.op.Op.{Op}
 use Rattle.lv_bits.specs.Values.{is_unary}
 use Rattle.lv_ast.specs.declared.expr.Literal.{Literal}
-use Rattle.lv_source.specs.Names.{Declared, Bounds, is_constant_sort}
-use Rattle.lv_source.specs.Values.{Meaning, unary, binary, chosen, cast, literal, divided, quotient, remainder, concatenated, replicated}
+use Rattle.lv_source.specs.Names.{Declared, is_constant_sort}
+use Rattle.lv_source.specs.Values.{unary, binary, chosen, cast, literal, divided, quotient, remainder, concatenated, replicated}
 use Rattle.lv_source.specs.Meaning.{Reading, named, all_constant}
 use Rattle.lv_source.specs.NodeRules.{is_width, is_array_fault, is_select_fault}
 use Rattle.lv_source.specs.Parts.{is_declared_sort}
@@ -17,7 +17,7 @@ use Rattle.lv_flat.specs.declared.expr.FlatExpr.TheVariants as e
 use Rattle.lv_flat.specs.declared.expr.FlatExpr.TheOpen.{FlatExpr-F}
 use Rattle.lv_flat.specs.declared.expr.FlatSelect.{FlatSelect}
 use Rattle.lv_flat.specs.Signals.{Signals, signal_at}
-use Rattle.lv_flat.specs.Judged.{Judged, JudgedSelect, judge, judge_step, judge_choice, judge_select, reading, readings, meaning, is_good, good_selects, number, choices, layer_good, layer_reading, all_good, step_of}
+use Rattle.lv_flat.specs.Judged.{Judged, JudgedSelect, judge, judge_step, judge_choice, judge_select, reading, readings, meaning, is_good, number, choices, layer_good, layer_reading, step_of}
 use Rattle.lv_flat.proofs.ExprFolds.{fold_expr-out}
 use Rattle.lv_flat.proofs.Judgements.{judge-Lit, judge-Const, judge-Signal, judge-Un, judge-Bin, judge-Div, judge-Rem, judge-Cond, judge-Cat, judge-Rep, judge-Cast}
 use Rattle.lv_lower.specs.Named.{are_good_selects, is_good_select}

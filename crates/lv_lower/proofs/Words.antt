@@ -1,9 +1,9 @@
 -- The word in which a name stands, as a node of a table.
-use Rattle.std.proofs.Common.{◌≡◌, ℕ, ◌+◌, ◌<◌, ◌≤◌, ◌^◌, Bool, true, false, List, [], ◌∷◌, length, map, take, drop, refl, sym, ◌∙◌, ap, subst, arith, get_or, Option, Some, None, ℤ}
-use Rattle.std.specs.Prelude.{if◌then◌else◌, slice_index, min}
+use Rattle.std.proofs.Common.{◌≡◌, ℕ, ◌<◌, ◌≤◌, Bool, true, false, List, [], ◌∷◌, length, take, drop, refl, sym, ◌∙◌, ap, arith, get_or, Option, Some, None}
+use Rattle.std.specs.Prelude.{if◌then◌else◌, slice_index}
 use Rattle.lv_netlist.specs.Net as net
 use Rattle.lv_netlist.specs.Net.{width_at}
-use Rattle.lv_source.specs.Names.{Declared, Bounds, Valuation, width_of, low, size, is_signal_sort, is_clock_sort}
+use Rattle.lv_source.specs.Names.{Declared, Bounds, width_of, low, size, is_signal_sort, is_clock_sort}
 use Rattle.lv_flat.specs.declared.sort.Sort.{Sort}
 use Rattle.lv_flat.specs.declared.sort.Sort.TheVariants.{Input, Net, Variable, Clock}
 use Rattle.lv_source.specs.Values.{Chosen}
@@ -13,10 +13,10 @@ use Rattle.lv_flat.specs.Signals.{Signals, signal_at, sort_of}
 use Rattle.lv_values.specs.declared.value.Value.{Value}
 use Rattle.lv_values.specs.declared.value.Value.TheVariants.{Node}
 use Rattle.lv_values.specs.declared.index.Choices.TheVariants.{Elements}
-use Rattle.lv_values.specs.Worlds.{World, IsIn, number}
+use Rattle.lv_values.specs.Worlds.{number}
 use Rattle.lv_values.specs.Picked.{element_value}
 use Rattle.lv_values.proofs.Growth.{grows-refl}
-use Rattle.lv_lower.specs.Tables.{IsTable, AreFirsts, Shows, Means}
+use Rattle.lv_lower.specs.Tables.{IsTable, AreFirsts, Means}
 use Rattle.lv_lower.specs.Named.{word_by, name_word, Stands, chosen_by, is_good_select, are_good_selects, HasElement}
 use Rattle.lv_lower.proofs.Wholes.{cell_is, signal_in}
 use Rattle.lv_flat.specs.declared.expr.FlatSelect.{FlatSelect}

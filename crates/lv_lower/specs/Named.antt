@@ -1,5 +1,5 @@
 -- Names with selects: the word that they stand in, and their bits.
-use Rattle.std.specs.Prelude.{◌≡◌, ℕ, Bool, if◌then◌else◌, List, [], ◌∷◌, map, Option, Some, None, ℤ, pos, negsuc, decimal}
+use Rattle.std.specs.Prelude.{◌≡◌, ℕ, Bool, if◌then◌else◌, List, [], ◌∷◌, Option, Some, None, ℤ, pos, negsuc, decimal}
 use Rattle.std.specs.List.{list_all}
 use Rattle.lv_ast.specs.Names.{at_index}
 use Rattle.lv_source.specs.Names.{Bounds, Declared, Valuation, low, high, is_signal_sort}

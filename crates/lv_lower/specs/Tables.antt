@@ -1,11 +1,9 @@
 -- A node for each cell, and what an expression's value means over it.
-use Rattle.std.specs.Prelude.{◌≡◌, ℕ, ◌<◌, List, length, take, map, slice_index}
+use Rattle.std.specs.Prelude.{◌≡◌, ℕ, ◌<◌, List, length, take, slice_index}
 use Rattle.lv_source.specs.Names.{Declared, Valuation}
 use Rattle.lv_netlist.specs.Net.{Net, width_at}
 use Rattle.lv_netlist.specs.Run.{bits_at}
-use Rattle.lv_flat.specs.declared.signal.Signal.{Signal}
 use Rattle.lv_flat.specs.Cells.{Cell, cell_at, all_cells, AreDistinct}
-use Rattle.lv_flat.specs.Signals.{declared}
 use Rattle.lv_values.specs.declared.value.Value.{Value}
 use Rattle.lv_values.specs.Worlds.{World, Obeys, Grows, IsIn, width_of, number}
 

@@ -1,4 +1,4 @@
-use Rattle.std.proofs.Common.{rules, ◌≡◌, ℕ, ◌+◌, ◌-◌, ◌*◌, ◌%◌, ◌^◌, ◌<◌, ◌≤◌, ◌==◌, Bool, true, List, length, map, take, drop, max, Some, None, sym, ◌∙◌, ap, subst, arith, refl, pos}
+use Rattle.std.proofs.Common.{rules, ◌≡◌, ℕ, ◌*◌, ◌%◌, ◌^◌, ◌<◌, ◌≤◌, ◌==◌, Bool, true, List, map, take, drop, max, Some, None, sym, ◌∙◌, ap, subst, arith, refl, pos}
 use Rattle.std.specs.Prelude.{if◌then◌else◌}
 use Rattle.std.specs.List.{list_all}
 use Rattle.std.proofs.lemmas.List.{length-map}
@@ -8,7 +8,6 @@ use Rattle.lv_source.specs.Names.{Declared, size, Valuation, is_signal_sort}
 use Rattle.lv_source.specs.Values.{Meaning, size_of, number_of, joined, widths, repeated, quotient, remainder}
 use Rattle.lv_source.specs.Places.{bit_selects}
 use Rattle.lv_source.specs.Meaning.{Reading}
-use Rattle.lv_const.specs.Constants.{constant_of}
 use Rattle.lv_flat.specs.declared.expr.FlatExpr.{FlatExpr}
 use Rattle.lv_flat.specs.declared.expr.FlatExpr.TheViews.{the_lemmas}
 use Rattle.lv_flat.specs.declared.expr.FlatSelect.{FlatSelect}
@@ -16,7 +15,7 @@ use Rattle.lv_flat.specs.Cells.{all_cells}
 use Rattle.lv_flat.specs.Signals.{declared, declared_all, signal_at, bounds_of}
 use Rattle.lv_flat.specs.Judged.{is_good, meaning, reading}
 use Rattle.lv_values.specs.declared.value.Value.TheVariants.{Known}
-use Rattle.lv_values.specs.Worlds.{IsIn, width_of}
+use Rattle.lv_values.specs.Worlds.{width_of}
 use Rattle.lv_values.proofs.Growth.{grows-refl}
 use Rattle.lv_lower.specs.Tables.{Means}
 use Rattle.lv_lower.specs.Reached.{Reach, reached, reached_by_one, at_width}

@@ -1,8 +1,7 @@
-use Rattle.std.proofs.Common.{rules, ◌≡◌, ℕ, ◌*◌, ◌<◌, ◌≤◌, max, Bool, true, false, ◌&&◌, List, length, map, refl, sym, ◌∙◌, ap, subst, arith}
+use Rattle.std.proofs.Common.{rules, ◌≡◌, ℕ, ◌*◌, ◌≤◌, max, Bool, true, false, ◌&&◌, List, map, sym, ◌∙◌, ap, subst, arith}
 use Rattle.std.specs.List.{list_all}
 use Rattle.std.proofs.lemmas.List.{length-map}
 use Rattle.lv_source.specs.Values.{Meaning, widths}
-use Rattle.lv_source.specs.Places.{bit_selects}
 use Rattle.lv_flat.specs.declared.expr.FlatExpr.{FlatExpr}
 use Rattle.lv_flat.specs.declared.expr.FlatExpr.TheViews.{the_lemmas}
 use Rattle.lv_flat.specs.Signals.{declared, declared_all}

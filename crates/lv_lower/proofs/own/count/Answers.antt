@@ -1,5 +1,4 @@
-use Rattle.std.proofs.Common.{sym, ap, arith, ◌∙◌}
-use Rattle.lv_source.specs.Names.{size}
+use Rattle.std.proofs.Common.{sym, arith, ◌∙◌}
 use Rattle.lv_flat.specs.Signals.{declared_all}
 use Rattle.lv_lower.proofs.Naming.{count-Bit, count-Part, count-Up, count-Down}
 use Rattle.lv_lower.proofs.own.count.Goals as goal

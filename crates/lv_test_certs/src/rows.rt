@@ -1,4 +1,4 @@
-ghost use Rattle.std.specs.Prelude.{◌≡◌, ◌<◌, ◌^◌, [], IsTrue, IfOk};
+ghost use Rattle.std.specs.Prelude.{◌≡◌, [], IfOk};
 
 use lv_cert::{Cert, CertError, Shape, read_cert, write_cert};
 use lv_clauses::{ClauseSet, Derivation, Lit, are_within};
@@ -48,9 +48,9 @@ const SHAPE: Shape = Shape {
 /// The lines, with this text in place of the one with this number, from 1.
 fn changed(alloc: Global, number: u64, text: &str) -> Result<Vec<u8>, Fail> {
     let mut out = Vec::new(alloc);
-    let mut at = 0;
+    let mut at: u64 = 0;
     for line in LINES {
-        at += 1;
+        at = at.saturating_add(1);
         if at == number {
             out.extend_from_slice(text.as_bytes())?;
         } else {
@@ -147,7 +147,7 @@ fn rows(rt: HostRuntime) -> Result<(), Fail> {
 #[test]
 fn prefixes(rt: HostRuntime) -> Result<(), Fail> {
     let mut bytes = Vec::new(rt.alloc());
-    let mut next = 1;
+    let mut next: u64 = 1;
     for line in LINES {
         if told(rt.alloc(), &bytes, SHAPE)? != next {
             return Err(Fail::from(line));
@@ -157,7 +157,7 @@ fn prefixes(rt: HostRuntime) -> Result<(), Fail> {
             return Err(Fail::from(line));
         }
         bytes.extend_from_slice(b"\n")?;
-        next += 1;
+        next = next.saturating_add(1);
     }
     if told(rt.alloc(), &bytes, SHAPE)? != 0 {
         return Err(Fail::from("whole"));

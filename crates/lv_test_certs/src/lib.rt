@@ -1,5 +1,0 @@
-//! Tests of certificates: their text, read and written.
-#![tactic(auto)]
-
-#[cfg(test)]
-mod rows;

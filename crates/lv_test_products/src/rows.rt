@@ -1,8 +1,8 @@
 use crate::building::{Step, built, word};
-use crate::tasks::{goal, kept, task};
+use crate::tasks::{goal, kept, pair_of, task};
 use lv_bits::{Op, Word};
 use lv_netlist::Node;
-use lv_product::{Candidate, Query, Task, window};
+use lv_product::{Candidate, Query, Task, input_nodes, window};
 use std::alloc::Global;
 use std::test::Fail;
 
@@ -75,11 +75,29 @@ fn words(alloc: Global, values: [u128; 5]) -> Result<Vec<Word>, Fail> {
     Ok(words)
 }
 
-fn implies(alloc: Global, task: &Task, numbers: &[u64], values: [u128; 5]) -> Result<u128, Fail> {
+fn asked(
+    alloc: Global,
+    task: &Task,
+    query: Query,
+    numbers: &[u64],
+    values: [u128; 5],
+) -> Result<u128, Fail> {
     let kept = kept(alloc, task, numbers)?;
-    let product = window(alloc, task, &kept, Query::Imply)?;
+    let product = window(alloc, task, &kept, query)?;
     let words = words(alloc, values)?;
     goal(alloc, &product, words.as_slice())
+}
+
+fn implies(alloc: Global, task: &Task, numbers: &[u64], values: [u128; 5]) -> Result<u128, Fail> {
+    asked(alloc, task, Query::Imply, numbers, values)
+}
+
+fn values(alloc: Global, words: &[Word]) -> Result<Vec<u128>, Fail> {
+    let mut values = Vec::new(alloc);
+    for word in words {
+        values.push(word.value())?;
+    }
+    Ok(values)
 }
 
 /// One cycle ahead the first entry isn't seen yet, two cycles ahead it is.
@@ -108,5 +126,57 @@ fn entries_are_matched_by_rank(rt: HostRuntime) -> Result<(), Fail> {
     let alloc = rt.alloc();
     let task = by_secret(alloc, 1)?;
     assert!(rt; implies(alloc, &task, &[1, 2, 3, 4], [0, 1, 1, 1, 1])? == 0);
+    Ok(())
+}
+
+/// Two states are an initial pair where c is one in both; then s may differ, and what is kept of c holds.
+#[test]
+fn first_states_are_asked_for(rt: HostRuntime) -> Result<(), Fail> {
+    let alloc = rt.alloc();
+    let task = late(alloc, 1)?;
+    assert!(rt; asked(alloc, &task, Query::Initial, &[], [0, 0, 1, 0, 1])? == 1);
+    assert!(rt; asked(alloc, &task, Query::Initial, &[], [0, 0, 1, 1, 1])? == 0);
+    assert!(rt; asked(alloc, &task, Query::Allowed, &[], [0, 0, 1, 1, 1])? == 1);
+    assert!(rt; asked(alloc, &task, Query::Base, &[0], [0, 0, 1, 0, 1])? == 1);
+    assert!(rt; asked(alloc, &task, Query::Base, &[1, 2], [0, 0, 1, 0, 1])? == 0);
+    Ok(())
+}
+
+/// A copy whose s is 1 retires earlier, so that c differs next; where the copies are aligned, what they show differs too.
+#[test]
+fn a_step_is_asked_for(rt: HostRuntime) -> Result<(), Fail> {
+    let alloc = rt.alloc();
+    let task = by_secret(alloc, 1)?;
+    assert!(rt; asked(alloc, &task, Query::Step, &[1], [0, 1, 1, 1, 0])? == 1);
+    assert!(rt; asked(alloc, &task, Query::Step, &[1], [0, 1, 1, 1, 1])? == 0);
+    Ok(())
+}
+
+/// A pair is taken apart as its words stand: both states, no inputs in each of the two cycles, and the truth value.
+#[test]
+fn a_pair_is_taken_apart(rt: HostRuntime) -> Result<(), Fail> {
+    let alloc = rt.alloc();
+    let task = late(alloc, 1)?;
+    let kept = kept(alloc, &task, &[1])?;
+    let product = window(alloc, &task, &kept, Query::Imply)?;
+    let words = words(alloc, [1, 2, 0, 3, 1])?;
+    let pair = pair_of(alloc, &product, words.as_slice())?;
+    assert!(rt; values(alloc, &pair.left)?.as_slice() == [1, 2].as_slice());
+    assert!(rt; values(alloc, &pair.right)?.as_slice() == [0, 3].as_slice());
+    assert_eq!(rt; pair.inputs.len(), 2);
+    assert!(rt; pair.aligned);
+    Ok(())
+}
+
+/// Each node of this design but its constants reads the registers.
+#[test]
+fn nodes_that_read_inputs_alone_are_constants(rt: HostRuntime) -> Result<(), Fail> {
+    let alloc = rt.alloc();
+    let task = late(alloc, 1)?;
+    let marks = input_nodes(alloc, &task.graph)?;
+    let want = [
+        false, false, true, false, true, true, false, false, false, false,
+    ];
+    assert!(rt; marks.as_slice() == want.as_slice());
     Ok(())
 }

@@ -7,7 +7,7 @@ ghost use Rattle.lv_test_products.specs.Marked.{candidate_marked};
 use crate::building::fits_inputs;
 use lv_bits::{Text, Word};
 use lv_netlist::Graph;
-use lv_product::{Candidate, Kept, Port, Product, Task, state_nodes};
+use lv_product::{Candidate, Kept, Pair, Port, Product, Task, state_nodes};
 use lv_sim::Sim;
 use std::alloc::Global;
 use std::test::Fail;
@@ -136,4 +136,13 @@ pub(crate) fn goal(alloc: Global, product: &Product, words: &[Word]) -> Result<u
     let mut sim = Sim::new(alloc, graph, none.as_slice())?;
     sim.settle(graph, words);
     Ok(sim.value(goal).value())
+}
+
+/// The pair that these words are.
+pub(crate) fn pair_of(alloc: Global, product: &Product, words: &[Word]) -> Result<Pair, Fail> {
+    if !fits_inputs(product.graph(), words) {
+        return Err(Fail::from("no such words"));
+    }
+    let pair = product.pair(alloc, words)?;
+    Ok(pair)
 }

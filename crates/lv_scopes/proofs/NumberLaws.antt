@@ -1,10 +1,10 @@
 -- The answer on a constant expression where it stands, from those of the calls on its width and its value.
-use Rattle.std.proofs.Common.{◌≡◌, ◌≤◌, ◌+◌, arith, ℕ, max, Bool, sym, ap, ◌∙◌, subst, Ok, Err, Some}
+use Rattle.std.proofs.Common.{◌≡◌, ◌≤◌, ◌+◌, arith, ℕ, max, Bool, List, sym, ap, ◌∙◌, subst, Ok, Err, Some}
 use Rattle.lv_bits.specs.Words.{Bits}
 use Rattle.lv_ast.specs.declared.expr.Expr.{Expr}
 use Rattle.lv_source.specs.Names.{Here}
 use Rattle.lv_source.specs.Meaning.{own_width, value_of}
-use Rattle.lv_source.specs.Sites.{Value, walk, first_place}
+use Rattle.lv_source.specs.Sites.{Site, Value, walk, first_place}
 use Rattle.lv_const.specs.declared.error.ConstError.{ConstError}
 use Rattle.lv_const.specs.Answers.{Told, Divides}
 use Rattle.lv_const.specs.Public.{IsOwnOf, IsOwnRefusal, IsValueOf, IsValueRefusal}
@@ -33,6 +33,9 @@ module _ (here : Here) (x : Expr) (least w : ℕ) (s : Bool) (o : IsOwnOf here x
   types : s ≡ (walk here.names x).shown.reading.meaning.signed
   types = o.signed ∙ sym (ap (λ r. r.meaning.signed) (walk-reads here.names x))
 
+  abbrev at : ℕ → Bool → List Site
+  at n b = (walk here.names x).sites Value (Some (first_place (walk here.names x).shown)) n b
+
   pub number_right : (word : Bits) → IsValueOf here x (max least w) s word → IsNumberAnswer here least x (Ok (record { word = word; signed = s }))
   number_right word v = record {
     right = record {
@@ -42,9 +45,9 @@ module _ (here : Here) (x : Expr) (least w : ℕ) (s : Bool) (o : IsOwnOf here x
       constant = o.constant;
       clean = record {
         sound = o.sound _ _ _;
-        divides = subst (λ n. Divides ((walk here.names x).sites Value (Some (first_place (walk here.names x).shown)) n (walk here.names x).shown.reading.meaning.signed))
+        divides = subst (λ n. Divides (at n (walk here.names x).shown.reading.meaning.signed))
             reaches
-            (subst (λ b. Divides ((walk here.names x).sites Value (Some (first_place (walk here.names x).shown)) (max least w) b)) types (v.divides _));
+            (subst (λ b. Divides (at (max least w) b)) types (v.divides _));
       };
     };
     wrong = tt;
@@ -53,9 +56,9 @@ module _ (here : Here) (x : Expr) (least w : ℕ) (s : Bool) (o : IsOwnOf here x
   pub number_wrong : (y : ConstError) → IsValueRefusal here x (max least w) s y → IsNumberAnswer here least x (Err y)
   number_wrong y v = record {
     right = tt;
-    wrong = subst (λ n. Told here.early ((walk here.names x).sites Value (Some (first_place (walk here.names x).shown)) n (walk here.names x).shown.reading.meaning.signed) y)
+    wrong = subst (λ n. Told here.early (at n (walk here.names x).shown.reading.meaning.signed) y)
         (again least w (own_width here.names x) o.width ∙ reaches)
-        (subst (λ b. Told here.early ((walk here.names x).sites Value (Some (first_place (walk here.names x).shown)) (max (max least w) (own_width here.names x)) b) y)
+        (subst (λ b. Told here.early (at (max (max least w) (own_width here.names x)) b) y)
         types (v.told _));
   }
 

@@ -43,7 +43,8 @@ pub plain_is : (here : Here) (x : Expr) (n : Number) (signed : Bool) (name : Nam
 plain_is here x n signed name h =
     let w : n.word.width ≡ own_width here.names x = h.width ∙ omega arith in
     ap (λ v. by name (n.word.width - 1) 0 (signed || n.signed) v) (own_is here x n h) ∙
-    two (λ (w : ℕ) (s : Bool). by name (w - 1) 0 (signed || s) (value_of here.names x (own_width here.names x) (own_signed here.names x) nowhere)) _ _ _ _ w h.signed
+    two (λ (w : ℕ) (s : Bool). by name (w - 1) 0 (signed || s) (value_of here.names x (own_width here.names x) (own_signed here.names x) nowhere)) _ _ _ _ w
+    h.signed
 
 pub sized_is : (here : Here) (x : Expr) (n : Number) (width : ℕ) → IsNumber here width x n →
     n.word.value / 2 ^ 0 % 2 ^ width ≡ assigned nowhere width (meaning here.names x)
@@ -67,7 +68,13 @@ narrow here r b h =
 
 module _ (here there : Here) (signed : Bool) (value : Expr) (place : ℕ) where
   pub none_right : (c : Const) → IsPlain there signed value c → IsParameterAnswer here there signed None value place (Ok c)
-  none_right c h = record { right = record { is = h.is; sound = record { allowed = refl; range_clean = record { sound = sound-none here.early; divides = divides-none }; value_clean = h.clean } }; wrong = tt }
+  none_right c h = record {
+    right = record {
+      is = h.is;
+      sound = record { allowed = refl; range_clean = record { sound = sound-none here.early; divides = divides-none }; value_clean = h.clean };
+    };
+    wrong = tt;
+  }
 
   pub none_wrong : (y : ConstError) → Told there.early (expr_sites true there.names 0 value) y → IsParameterAnswer here there signed None value place (Err y)
   none_wrong y h = record { right = tt; wrong = record { told = h.found } }
@@ -116,7 +123,8 @@ module _ (here there : Here) (signed : Bool) (value : Expr) (place : ℕ) where
         wrong = tt;
       }
 
-      pub some_wrong : (y : ConstError) → Told there.early (expr_sites true there.names (span b.0 b.1) value) y → IsParameterAnswer here there signed (Some r) value place (Err y)
+      pub some_wrong : (y : ConstError) → Told there.early (expr_sites true there.names (span b.0 b.1) value) y →
+          IsParameterAnswer here there signed (Some r) value place (Err y)
       some_wrong y k = record {
         right = tt;
         wrong = record {

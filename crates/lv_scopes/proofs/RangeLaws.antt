@@ -154,8 +154,12 @@ range_faulty around r vector place y h = record {
 
 pub left_faulty : (around : Here) (r : Range) (vector : Bool) (place : ℕ) (y : ConstError) → Told around.early (expr_sites true around.names 0 r.left) y →
     IsRangeAnswer around r vector place (Err y)
-left_faulty around r vector place y h = range_faulty around r vector place y (told-first around.early (expr_sites true around.names 0 r.left) (expr_sites true around.names 0 r.right) y h)
+left_faulty around r vector place y h =
+    range_faulty around r vector place y
+    (told-first around.early (expr_sites true around.names 0 r.left) (expr_sites true around.names 0 r.right) y h)
 
 pub right_faulty : (around : Here) (r : Range) (vector : Bool) (place : ℕ) (y : ConstError) → Told around.early (expr_sites true around.names 0 r.right) y →
     IsRangeAnswer around r vector place (Err y)
-right_faulty around r vector place y h = range_faulty around r vector place y (told-second around.early (expr_sites true around.names 0 r.left) (expr_sites true around.names 0 r.right) y h)
+right_faulty around r vector place y h =
+    range_faulty around r vector place y
+    (told-second around.early (expr_sites true around.names 0 r.left) (expr_sites true around.names 0 r.right) y h)

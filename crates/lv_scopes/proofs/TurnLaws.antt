@@ -35,7 +35,8 @@ index_is here x n h =
 
 pub own_is : (here : Here) (x : Expr) (n : Number) → IsNumber here 0 x n → n.word.value ≡ constant_value here.names x
 own_is here x n h =
-    h.value nowhere ∙ ap (λ w. value_of here.names x w n.signed nowhere) (h.width ∙ omega arith) ∙ ap (λ s. value_of here.names x (own_width here.names x) s nowhere) h.signed
+    h.value nowhere ∙ ap (λ w. value_of here.names x w n.signed nowhere) (h.width ∙ omega arith) ∙
+    ap (λ s. value_of here.names x (own_width here.names x) s nowhere) h.signed
 
 -- ---- faults of joined lists
 
@@ -142,7 +143,8 @@ module _ (here : Here) (index : Name) (start test next : Expr) where
   all_tests : (done : List ℕ) (value : ℕ) → IsSoFar here index start test next done value → AreClean inner (test_sites (at value) test) →
       AreClean inner (flat_map (λ k. test_sites (at k) test) (index_value names start ∷ map after done))
   all_tests done value s k =
-      subst (λ zs. AreClean inner (flat_map (λ k. test_sites (at k) test) zs)) (sym s.chain) (clean_more inner (λ k. test_sites (at k) test) done value s.tests k)
+      subst (λ zs. AreClean inner (flat_map (λ k. test_sites (at k) test) zs)) (sym s.chain)
+      (clean_more inner (λ k. test_sites (at k) test) done value s.tests k)
 
   -- the parts of these turns
   abbrev sites_by : List ℕ → List Site

@@ -44,7 +44,8 @@ pub record IsStep (here : Here) (test next : Expr) (n : Option ℕ) : Type 0 whe
 
 -- a fault of the test, or of the next value where the test is not 0
 abbrev pub IsStepFault : Here → Expr → Expr → ConstError → Type 0
-IsStepFault here test next y = Told here.early (test_sites here.names test) y ⊎ (((constant_value here.names test == 0) ≡ false) × Told here.early (next_sites here.names next) y)
+IsStepFault here test next y =
+    Told here.early (test_sites here.names test) y ⊎ (((constant_value here.names test == 0) ≡ false) × Told here.early (next_sites here.names next) y)
 
 pub record IsStepAnswer (here : Here) (test next : Expr) (r : Result (Option ℕ) ConstError) : Type 0 where
   pub right : IfOk r (IsStep here test next)

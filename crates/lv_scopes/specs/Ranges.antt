@@ -38,7 +38,8 @@ pub record IsRange (here : Here) (r : Range) (vector : Bool) (b : ℕ × ℕ) : 
 
 -- what can be told of it: that it is none that is allowed, or a fault of a node of its bounds
 abbrev pub range_faults : Here → Range → Bool → ℕ → List ConstError
-range_faults here r vector place = map x.Range (place_if (not (is_range here.names vector (Some r))) place) ++ flat_map (all_faults here.early) (range_sites here.names (Some r))
+range_faults here r vector place =
+    map x.Range (place_if (not (is_range here.names vector (Some r))) place) ++ flat_map (all_faults here.early) (range_sites here.names (Some r))
 
 pub record IsRangeFault (here : Here) (r : Range) (vector : Bool) (place : ℕ) (y : ConstError) : Type 0 where
   pub told : Contains (range_faults here r vector place) y

@@ -37,7 +37,8 @@ fn bounds(left: Option<u32>, right: Option<u32>, vector: bool) -> Option<(u32, u
 }
 
 /// The bounds of a range (IEEE 1364-2005, section 4.3.1): each at least 0 and at most 65535, and those of a vector of at most
-/// 128 bits, wherever these are the constants that are declared before. `Range` at `place` where they are not so; any other error is a fault of a node of a bound. It takes no memory.
+/// 128 bits, wherever these are the constants that are declared before. `Range` at `place` where they are not so; any other error
+/// is a fault of a node of a bound. It takes no memory.
 pub fn range_of(
     consts: &Consts,
     range: &Range,

@@ -49,9 +49,10 @@ fn sized(
     }
 }
 
-/// The constant that a parameter becomes (IEEE 1364-2005, sections 4.10 and 12.2): its range is read wherever `here` are the constants that are declared before, and its
-/// value, its own or that of an instance, wherever `there` are. Without a range it has the width and the type of its value. `Range` at `place` where the range is
-/// none that is allowed; any other error is a fault of a node of the range or of the value. It takes no memory.
+/// The constant that a parameter becomes (IEEE 1364-2005, sections 4.10 and 12.2): its range is read wherever `here` are the constants
+/// that are declared before, and its value, its own or that of an instance, wherever `there` are. Without a range it has the width and
+/// the type of its value. `Range` at `place` where the range is none that is allowed; any other error is a fault of a node of the range
+/// or of the value. It takes no memory.
 pub fn parameter_of(
     here: &Consts,
     there: &Consts,

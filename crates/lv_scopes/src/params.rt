@@ -10,8 +10,7 @@ use lv_ast::Params;
 use lv_const::Consts;
 
 /// Adds parameters that are declared together, each with its own value, which is read wherever the constants so far are those that are
-/// declared before. After an error these
-/// are unchanged; `Const` is a range that is not allowed, told at a name, or a fault of a node.
+/// declared before. After an error these are unchanged; `Const` is a range that is not allowed, told at a name, or a fault of a node.
 pub fn set_params(consts: &mut Consts, params: &Params) -> Result<(), ParameterError>
     ensures added { OnOk result ((es : List Entry) × (consts.new ≡ consts.old ++ es)) }
     ensures named { OnOk result ((local : Bool) → names_of consts.new ≡ params_set local (names_of consts.old) params.now) }

@@ -29,8 +29,8 @@ fn put_constant(consts: &mut Consts, name: &Text, constant: Const) -> Result<(),
 }
 
 /// Adds the parameter that an instance gives a value: this is read wherever `there` are the constants that are declared before, the range
-/// wherever the constants so far are. After an error
-/// these are unchanged; `Const` is a range that is not allowed, told at the name, or a fault of a node.
+/// wherever the constants so far are. After an error these are unchanged; `Const` is a range that is not allowed, told at the name, or
+/// a fault of a node.
 pub fn set_given(
     consts: &mut Consts,
     there: &Consts,
@@ -57,8 +57,8 @@ pub fn set_given(
     }
 }
 
-/// Adds a parameter with its own value, which is read wherever the constants so far are those that are declared before. After an error these are unchanged; `Const` is a range
-/// that is not allowed, told at the name, or a fault of a node.
+/// Adds a parameter with its own value, which is read wherever the constants so far are those that are declared before. After an error
+/// these are unchanged; `Const` is a range that is not allowed, told at the name, or a fault of a node.
 pub fn set_own(
     consts: &mut Consts,
     name: &Ident,

@@ -102,10 +102,9 @@ fn turn(
     }
 }
 
-/// The values of a loop's index, turn by turn (IEEE 1364-2005, sections 9.6 and 12.4.1): those of the definition, at most `most`, wherever these are
-/// the constants that are declared before.
-/// `Limit` where there are more, and it ends there, however many these are; any other error but `NoMemory` is a fault of a node of
-/// the header. The constants are unchanged.
+/// The values of a loop's index, turn by turn (IEEE 1364-2005, sections 9.6 and 12.4.1): those of the definition, at most `most`,
+/// wherever these are the constants that are declared before. `Limit` where there are more, and it ends there, however many these are;
+/// any other error but `NoMemory` is a fault of a node of the header. The constants are unchanged.
 pub fn turns_of(
     alloc: Global,
     consts: &mut Consts,

@@ -1,9 +1,7 @@
 use Rattle.std.proofs.Common.{◌≡◌, ◌≤◌, ◌+◌, ◌++◌, ◌∷◌, [], length, refl, sym, ap, ◌∙◌, subst, arith, length-append, inl, Ok, Err}
-use Rattle.lv_source.specs.Names.{Here}
 use Rattle.lv_source.specs.Standing.{at_turn}
-use Rattle.lv_const.specs.Constants.{names_of}
 use Rattle.lv_scopes.specs.Headers.{IsSoFar, IsStep}
-use Rattle.lv_scopes.proofs.TurnLaws.{begin, more, ends, over, no_turns, turn_made}
+use Rattle.lv_scopes.proofs.TurnLaws.{begin, more, ends, no_turns, turn_made}
 use Rattle.lv_scopes.proofs.turns.turns_of.Goals as goal
 
 pub returns-in-Err-clause-right : goal.returns-in-Err-clause-right

@@ -1,6 +1,4 @@
 pub mod ByName
-pub mod Carried
-pub mod Carrying
 pub mod Indexed
 pub mod NumberLaws
 pub mod ParamLaws

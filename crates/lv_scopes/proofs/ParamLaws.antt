@@ -11,6 +11,7 @@ use Rattle.lv_source.specs.Scopes.{parameter, with_parameters}
 use Rattle.lv_source.proofs.Summaries.{append-none}
 use Rattle.lv_const.specs.declared.consts.Entry.{Entry}
 use Rattle.lv_const.specs.Constants.{names_of}
+use Rattle.lv_const.specs.Wherever.{Wherever}
 use Rattle.lv_scopes.specs.declared.setting.ParameterError.{ParameterError}
 use Rattle.lv_scopes.specs.Parameters.{IsSound, IsUnset}
 use Rattle.lv_scopes.specs.Params.{params_set, names_before, AreSound, IsUnsetIn, AreSetSoFar}
@@ -60,17 +61,18 @@ below_or j k h = grind arith
 
 module _ (old mid : List Entry) (ps : Params) (k : ℕ) (s : Setting) (h : AreSetSoFar old mid ps k) (within : k < length ps.list)
     (is : s ≡ get_or ps.list k s) where
-  last_sound : IsSound (names_of mid) (names_of mid) ps.range s.value → (j : ℕ) (t : Setting) → (j < k) ⊎ (j ≡ k) → slice_get ps.list j ≡ Some t →
-      IsSound (names_before (names_of old) ps j) (names_before (names_of old) ps j) ps.range t.value
+  last_sound : Wherever (names_of mid) (λ here. IsSound here here ps.range s.value) → (j : ℕ) (t : Setting) → (j < k) ⊎ (j ≡ k) → slice_get ps.list j ≡ Some t →
+      Wherever (names_before (names_of old) ps j) (λ here. IsSound here here ps.range t.value)
   last_sound w j t (inl l) e = h.sound j t l e
   last_sound w j t (inr l) e =
       let same : s ≡ t = (let a : slice_get ps.list k ≡ Some s = found ps k s within is in let b : slice_get ps.list k ≡ Some t = ap (slice_get ps.list)
       (sym l) ∙ e in cc) in
-      subst (λ i. IsSound (names_before (names_of old) ps i) (names_before (names_of old) ps i) ps.range t.value) (sym l)
-      (subst (λ names. IsSound names names ps.range t.value) h.named (subst (λ (z : Setting). IsSound (names_of mid) (names_of mid) ps.range z.value) same w))
+      subst (λ i. Wherever (names_before (names_of old) ps i) (λ here. IsSound here here ps.range t.value)) (sym l)
+      (subst (λ names. Wherever names (λ here. IsSound here here ps.range t.value)) h.named
+      (subst (λ (z : Setting). Wherever (names_of mid) (λ here. IsSound here here ps.range z.value)) same w))
 
   pub set_more : (new : List Entry) → (e : Entry) × (new ≡ mid ++ e ∷ []) → names_of new ≡ one_more (names_of mid) ps s →
-      IsSound (names_of mid) (names_of mid) ps.range s.value →
+      Wherever (names_of mid) (λ here. IsSound here here ps.range s.value) →
       AreSetSoFar old new ps (k + 1)
   set_more new a n w = record {
     longer = (h.longer.0 ++ a.0 ∷ [], a.1 ∙ ap (λ zs. zs ++ a.0 ∷ []) h.longer.1 ∙ append_assoc old h.longer.0 (a.0 ∷ []));
@@ -78,12 +80,12 @@ module _ (old mid : List Entry) (ps : Params) (k : ℕ) (s : Setting) (h : AreSe
     sound = λ j t l e. last_sound w j t (below_or j k l) e;
   }
 
-  pub set_none : (y : ParameterError) → IsUnset (names_of mid) (names_of mid) ps.range s.value s.name.place y → IsUnsetIn (names_of old) ps y
+  pub set_none : (y : ParameterError) → Wherever (names_of mid) (λ here. IsUnset here here ps.range s.value s.name.place y) → IsUnsetIn (names_of old) ps y
   set_none y w = record {
     at = k;
     setting = s;
     is = found ps k s within is;
-    told = subst (λ names. IsUnset names names ps.range s.value s.name.place y) h.named w;
+    told = subst (λ names. Wherever names (λ here. IsUnset here here ps.range s.value s.name.place y)) h.named w;
   }
 
 pub cut_back : (old mid : List Entry) (ps : Params) (k n : ℕ) → AreSetSoFar old mid ps k → n ≡ length old → take n mid ≡ old

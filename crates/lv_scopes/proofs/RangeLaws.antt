@@ -6,7 +6,7 @@ use Rattle.std.proofs.lemmas.Bool.Decides.{nat_tests}
 use Rattle.std.proofs.lemmas.List.Elements.{Contains-append_left, Contains-append_right}
 use Rattle.lv_ast.specs.declared.expr.Expr.{Expr}
 use Rattle.lv_ast.specs.declared.item.Range.{Range}
-use Rattle.lv_source.specs.Names.{Names, Bounds, size}
+use Rattle.lv_source.specs.Names.{Here, Bounds, size}
 use Rattle.lv_source.specs.Values.{nowhere}
 use Rattle.lv_source.specs.Meaning.{meaning, value_of}
 use Rattle.lv_source.specs.Scopes.{bound, bound_number}
@@ -25,10 +25,10 @@ use Rattle.lv_scopes.specs.Ranges.{number_in, bound_in, bounds_in, IsRangeAnswer
 use Rattle.lv_scopes.proofs.TurnLaws.{own_is}
 
 -- the number that a bound stands for
-number_is : (names : Names) (x : Expr) (n : Number) → IsNumber names 0 x n → number_in n.signed n.word.width n.word.value ≡ bound_number names x
-number_is names x n h =
-    ap (λ v. number_in n.signed n.word.width v) (own_is names x n h) ∙
-    two (λ (s : Bool) (w : ℕ). number_in s w (value_of names x (meaning names x).width (meaning names x).signed nowhere)) _ _ _ _ h.signed
+number_is : (around : Here) (x : Expr) (n : Number) → IsNumber around 0 x n → number_in n.signed n.word.width n.word.value ≡ bound_number around.names x
+number_is around x n h =
+    ap (λ v. number_in n.signed n.word.width v) (own_is around x n h) ∙
+    two (λ (s : Bool) (w : ℕ). number_in s w (value_of around.names x (meaning around.names x).width (meaning around.names x).signed nowhere)) _ _ _ _ h.signed
     (h.width ∙ omega arith)
 
 -- ---- two numbers
@@ -107,55 +107,59 @@ no vector (pos l) (pos r) h = lost vector (nat_le l 65535) (nat_le r 65535) l r 
 
 -- ---- a range
 
-module _ (names : Names) (r : Range) (vector : Bool) (place : ℕ) (m n : Number) (h : IsNumber names 0 r.left m) (k : IsNumber names 0 r.right n) where
+module _ (around : Here) (r : Range) (vector : Bool) (place : ℕ) (m n : Number) (h : IsNumber around 0 r.left m) (k : IsNumber around 0 r.right n) where
   abbrev left : ℤ
   left = number_in m.signed m.word.width m.word.value
 
   abbrev right : ℤ
   right = number_in n.signed n.word.width n.word.value
 
-  same : allowed vector left right ≡ is_range names vector (Some r)
-  same = two (λ (a b : ℤ). allowed vector a b) _ _ _ _ (number_is names r.left m h) (number_is names r.right n k)
+  same : allowed vector left right ≡ is_range around.names vector (Some r)
+  same = two (λ (a b : ℤ). allowed vector a b) _ _ _ _ (number_is around r.left m h) (number_is around r.right n k)
 
-  pub range_right : (b : ℕ × ℕ) → both vector left right ≡ Some b → IsRangeAnswer names r vector place (Ok b)
+  pub range_right : (b : ℕ × ℕ) → both vector left right ≡ Some b → IsRangeAnswer around r vector place (Ok b)
   range_right b e =
       let t : AreBounds vector left right b = yes vector left right b e in record {
         right = record {
           bounds = two (λ (a c : ℤ). let z : Bounds = record { left = bound a; right = bound c } in z) _ _ _ _
-              (sym (number_is names r.left m h) ∙ t.left) (sym (number_is names r.right n k) ∙ t.right);
+              (sym (number_is around r.left m h) ∙ t.left) (sym (number_is around r.right n k) ∙ t.right);
           allowed = sym same ∙ t.allowed;
           left = t.first;
           right = t.second;
-          clean = record { sound = sound-both _ _ h.clean.sound k.clean.sound; divides = divides-both _ _ h.clean.divides k.clean.divides };
+          clean = record { sound = sound-both around.early _ _ h.clean.sound k.clean.sound; divides = divides-both _ _ h.clean.divides k.clean.divides };
         };
         wrong = tt;
       }
 
-  pub range_wrong : both vector left right ≡ None → IsRangeAnswer names r vector place (Err (x.Range place))
+  pub range_wrong : both vector left right ≡ None → IsRangeAnswer around r vector place (Err (x.Range place))
   range_wrong e =
-      let t : is_range names vector (Some r) ≡ false = sym same ∙ no vector left right e in record {
+      let t : is_range around.names vector (Some r) ≡ false = sym same ∙ no vector left right e in record {
         right = tt;
         wrong = record {
-          told = Contains-append_left (map x.Range (place_if (not (is_range names vector (Some r))) place))
-              (flat_map all_faults (range_sites names (Some r))) (x.Range place)
+          told = Contains-append_left (map x.Range (place_if (not (is_range around.names vector (Some r))) place))
+              (flat_map (all_faults around.early) (range_sites around.names (Some r))) (x.Range place)
               (subst (λ b. Contains (map x.Range (place_if (not b) place)) (x.Range place)) (sym t) (here (x.Range place) []));
         };
       }
 
-pub range_faulty : (names : Names) (r : Range) (vector : Bool) (place : ℕ) (y : ConstError) → Told (range_sites names (Some r)) y →
-    IsRangeAnswer names r vector place (Err y)
-range_faulty names r vector place y h = record {
+pub range_faulty : (around : Here) (r : Range) (vector : Bool) (place : ℕ) (y : ConstError) → Told around.early (range_sites around.names (Some r)) y →
+    IsRangeAnswer around r vector place (Err y)
+range_faulty around r vector place y h = record {
   right = tt;
   wrong = record {
-    told = Contains-append_right (map x.Range (place_if (not (is_range names vector (Some r))) place))
-        (flat_map all_faults (range_sites names (Some r))) y h.found;
+    told = Contains-append_right (map x.Range (place_if (not (is_range around.names vector (Some r))) place))
+        (flat_map (all_faults around.early) (range_sites around.names (Some r))) y h.found;
   };
 }
 
-pub left_faulty : (names : Names) (r : Range) (vector : Bool) (place : ℕ) (y : ConstError) → Told (expr_sites true names 0 r.left) y →
-    IsRangeAnswer names r vector place (Err y)
-left_faulty names r vector place y h = range_faulty names r vector place y (told-first (expr_sites true names 0 r.left) (expr_sites true names 0 r.right) y h)
+pub left_faulty : (around : Here) (r : Range) (vector : Bool) (place : ℕ) (y : ConstError) → Told around.early (expr_sites true around.names 0 r.left) y →
+    IsRangeAnswer around r vector place (Err y)
+left_faulty around r vector place y h =
+    range_faulty around r vector place y
+    (told-first around.early (expr_sites true around.names 0 r.left) (expr_sites true around.names 0 r.right) y h)
 
-pub right_faulty : (names : Names) (r : Range) (vector : Bool) (place : ℕ) (y : ConstError) → Told (expr_sites true names 0 r.right) y →
-    IsRangeAnswer names r vector place (Err y)
-right_faulty names r vector place y h = range_faulty names r vector place y (told-second (expr_sites true names 0 r.left) (expr_sites true names 0 r.right) y h)
+pub right_faulty : (around : Here) (r : Range) (vector : Bool) (place : ℕ) (y : ConstError) → Told around.early (expr_sites true around.names 0 r.right) y →
+    IsRangeAnswer around r vector place (Err y)
+right_faulty around r vector place y h =
+    range_faulty around r vector place y
+    (told-second around.early (expr_sites true around.names 0 r.left) (expr_sites true around.names 0 r.right) y h)

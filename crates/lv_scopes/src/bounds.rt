@@ -1,5 +1,6 @@
 ghost use Rattle.std.specs.Prelude.{◌≡◌, ◌≤◌};
 ghost use Rattle.lv_const.specs.Constants.{names_of};
+ghost use Rattle.lv_const.specs.Wherever.{Wherever};
 ghost use Rattle.lv_scopes.specs.Ranges.{bound_in, bounds_in, number_in, IsRangeAnswer};
 
 use crate::number::{Number, number_of};
@@ -36,14 +37,15 @@ fn bounds(left: Option<u32>, right: Option<u32>, vector: bool) -> Option<(u32, u
 }
 
 /// The bounds of a range (IEEE 1364-2005, section 4.3.1): each at least 0 and at most 65535, and those of a vector of at most
-/// 128 bits. `Range` at `place` where they are not so; any other error is a fault of a node of a bound. It takes no memory.
+/// 128 bits, wherever these are the constants that are declared before. `Range` at `place` where they are not so; any other error
+/// is a fault of a node of a bound. It takes no memory.
 pub fn range_of(
     consts: &Consts,
     range: &Range,
     vector: bool,
     place: u64,
 ) -> Result<(u32, u32), ConstError>
-    ensures { IsRangeAnswer (names_of consts.now) range.now vector place result }
+    ensures { Wherever (names_of consts.now) (λ here. IsRangeAnswer here range.now vector place result) }
 {
     match number_of(consts, range.left.get(), 0) {
         Err(error) => Err(error),

@@ -1,5 +1,6 @@
 ghost use Rattle.std.specs.Prelude.{◌≡◌, ◌≤◌};
 ghost use Rattle.lv_const.specs.Constants.{names_of};
+ghost use Rattle.lv_const.specs.Wherever.{Wherever};
 ghost use Rattle.lv_const.specs.Widths.{span};
 ghost use Rattle.lv_scopes.specs.Parameters.{IsPlainAnswer, IsSizedAnswer, IsParameterAnswer};
 
@@ -10,7 +11,7 @@ use lv_const::{Const, ConstError, Consts};
 
 /// A value that keeps its own width and type.
 fn plain(consts: &Consts, value: &Expr, signed: bool) -> Result<Const, ConstError>
-    ensures { IsPlainAnswer (names_of consts.now) signed value.now result }
+    ensures { Wherever (names_of consts.now) (λ there. IsPlainAnswer there signed value.now result) }
 {
     match number_of(consts, value, 0) {
         Err(error) => Err(error),
@@ -34,7 +35,7 @@ fn sized(
     requires left_in { left ≤ 65535 }
     requires right_in { right ≤ 65535 }
     requires narrow { span left right ≤ 128 }
-    ensures { IsSizedAnswer (names_of consts.now) signed value.now left right result }
+    ensures { Wherever (names_of consts.now) (λ there. IsSizedAnswer there signed value.now left right result) }
 {
     let width = left.max(right) - left.min(right) + 1;
     match number_of(consts, value, width) {
@@ -48,9 +49,10 @@ fn sized(
     }
 }
 
-/// The constant that a parameter becomes (IEEE 1364-2005, sections 4.10 and 12.2): its range is read among `here`, and its value,
-/// its own or that of an instance, among `there`. Without a range it has the width and the type of its value. `Range` at `place` where the range is
-/// none that is allowed; any other error is a fault of a node of the range or of the value. It takes no memory.
+/// The constant that a parameter becomes (IEEE 1364-2005, sections 4.10 and 12.2): its range is read wherever `here` are the constants
+/// that are declared before, and its value, its own or that of an instance, wherever `there` are. Without a range it has the width and
+/// the type of its value. `Range` at `place` where the range is none that is allowed; any other error is a fault of a node of the range
+/// or of the value. It takes no memory.
 pub fn parameter_of(
     here: &Consts,
     there: &Consts,
@@ -59,7 +61,8 @@ pub fn parameter_of(
     value: &Expr,
     place: u64,
 ) -> Result<Const, ConstError>
-    ensures { IsParameterAnswer (names_of here.now) (names_of there.now) signed range.now value.now place result }
+    ensures { Wherever (names_of here.now) (λ around.
+        Wherever (names_of there.now) (λ outside. IsParameterAnswer around outside signed range.now value.now place result)) }
 {
     match range {
         None => plain(there, value, signed),

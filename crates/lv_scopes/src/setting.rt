@@ -2,6 +2,7 @@ ghost use Rattle.std.specs.Prelude.{◌≡◌, ◌∷◌, [], ◌++◌, Some, On
 ghost use Rattle.lv_source.specs.Names.{with_name};
 ghost use Rattle.lv_source.specs.Scopes.{parameter};
 ghost use Rattle.lv_const.specs.Constants.{names_of, constant_of};
+ghost use Rattle.lv_const.specs.Wherever.{Wherever};
 ghost use Rattle.lv_const.specs.declared.consts.Entry.{Entry};
 ghost use Rattle.lv_scopes.specs.Parameters.{IsSound, IsUnset};
 
@@ -27,8 +28,9 @@ fn put_constant(consts: &mut Consts, name: &Text, constant: Const) -> Result<(),
     consts.put(name, Some(constant))
 }
 
-/// Adds the parameter that an instance gives a value: this is read among `there`, the range among the constants so far. After an error
-/// these are unchanged; `Const` is a range that is not allowed, told at the name, or a fault of a node.
+/// Adds the parameter that an instance gives a value: this is read wherever `there` are the constants that are declared before, the range
+/// wherever the constants so far are. After an error these are unchanged; `Const` is a range that is not allowed, told at the name, or
+/// a fault of a node.
 pub fn set_given(
     consts: &mut Consts,
     there: &Consts,
@@ -38,10 +40,12 @@ pub fn set_given(
     value: &Expr,
 ) -> Result<(), ParameterError>
     ensures added { OnOk result ((e : Entry) × (consts.new ≡ consts.old ++ e ∷ [])) }
-    ensures named { OnOk result (names_of consts.new ≡
-        with_name (names_of consts.old) name.now.name (Some (parameter (names_of consts.old) name.now signed range.now (names_of there.now) value.now))) }
-    ensures sound { OnOk result (IsSound (names_of consts.old) (names_of there.now) range.now value.now) }
-    ensures wrong { IfErr result (IsUnset (names_of consts.old) (names_of there.now) range.now value.now name.now.place) }
+    ensures named { OnOk result (Wherever (names_of consts.old) (λ around. Wherever (names_of there.now) (λ outside. names_of consts.new ≡
+        with_name (names_of consts.old) name.now.name (Some (parameter around.names name.now signed range.now outside.names value.now))))) }
+    ensures sound { OnOk result (Wherever (names_of consts.old) (λ around. Wherever (names_of there.now) (λ outside.
+        IsSound around outside range.now value.now))) }
+    ensures wrong { IfErr result (λ y. Wherever (names_of consts.old) (λ around. Wherever (names_of there.now) (λ outside.
+        IsUnset around outside range.now value.now name.now.place y))) }
     ensures kept { OnErr result (consts.new ≡ consts.old) }
 {
     match parameter_of(consts, there, signed, range, value, name.place) {
@@ -53,8 +57,8 @@ pub fn set_given(
     }
 }
 
-/// Adds a parameter with its own value, which is read among the constants so far. After an error these are unchanged; `Const` is a range
-/// that is not allowed, told at the name, or a fault of a node.
+/// Adds a parameter with its own value, which is read wherever the constants so far are those that are declared before. After an error
+/// these are unchanged; `Const` is a range that is not allowed, told at the name, or a fault of a node.
 pub fn set_own(
     consts: &mut Consts,
     name: &Ident,
@@ -63,10 +67,10 @@ pub fn set_own(
     value: &Expr,
 ) -> Result<(), ParameterError>
     ensures added { OnOk result ((e : Entry) × (consts.new ≡ consts.old ++ e ∷ [])) }
-    ensures named { OnOk result (names_of consts.new ≡
-        with_name (names_of consts.old) name.now.name (Some (parameter (names_of consts.old) name.now signed range.now (names_of consts.old) value.now))) }
-    ensures sound { OnOk result (IsSound (names_of consts.old) (names_of consts.old) range.now value.now) }
-    ensures wrong { IfErr result (IsUnset (names_of consts.old) (names_of consts.old) range.now value.now name.now.place) }
+    ensures named { OnOk result (Wherever (names_of consts.old) (λ here. names_of consts.new ≡
+        with_name (names_of consts.old) name.now.name (Some (parameter here.names name.now signed range.now here.names value.now)))) }
+    ensures sound { OnOk result (Wherever (names_of consts.old) (λ here. IsSound here here range.now value.now)) }
+    ensures wrong { IfErr result (λ y. Wherever (names_of consts.old) (λ here. IsUnset here here range.now value.now name.now.place y)) }
     ensures kept { OnErr result (consts.new ≡ consts.old) }
 {
     match parameter_of(consts, consts, signed, range, value, name.place) {

@@ -2,6 +2,7 @@ ghost use Rattle.std.specs.Prelude.{◌≡◌, ◌≤◌, List, ◌∷◌, [], �
 ghost use Rattle.lv_ast.specs.Names.{Name};
 ghost use Rattle.lv_source.specs.Effect.{with_index};
 ghost use Rattle.lv_const.specs.Constants.{names_of};
+ghost use Rattle.lv_const.specs.Wherever.{Wherever};
 ghost use Rattle.lv_const.specs.declared.consts.Entry.{Entry};
 ghost use Rattle.lv_scopes.specs.Headers.{IsIndexAnswer, IsZeroAnswer, IsStepAnswer, IsTurnAnswer, IsTurnsAnswer};
 
@@ -24,7 +25,7 @@ pub enum TurnsError {
 
 /// A number as a loop index keeps it.
 fn index_number(consts: &Consts, expr: &Expr) -> Result<u32, ConstError>
-    ensures { IsIndexAnswer (names_of consts.now) expr.now result }
+    ensures { Wherever (names_of consts.now) (λ here. IsIndexAnswer here expr.now result) }
 {
     match number_of(consts, expr, 32) {
         Err(error) => Err(error),
@@ -34,7 +35,7 @@ fn index_number(consts: &Consts, expr: &Expr) -> Result<u32, ConstError>
 
 /// Whether a test is 0.
 fn is_zero(consts: &Consts, expr: &Expr) -> Result<bool, ConstError>
-    ensures { IsZeroAnswer (names_of consts.now) expr.now result }
+    ensures { Wherever (names_of consts.now) (λ here. IsZeroAnswer here expr.now result) }
 {
     match number_of(consts, expr, 0) {
         Err(error) => Err(error),
@@ -44,7 +45,7 @@ fn is_zero(consts: &Consts, expr: &Expr) -> Result<bool, ConstError>
 
 /// The next value of the index, where the test is not 0.
 fn step(consts: &Consts, test: &Expr, next: &Expr) -> Result<Option<u32>, ConstError>
-    ensures { IsStepAnswer (names_of consts.now) test.now next.now result }
+    ensures { Wherever (names_of consts.now) (λ here. IsStepAnswer here test.now next.now result) }
 {
     match is_zero(consts, test) {
         Err(error) => Err(error),
@@ -87,7 +88,7 @@ fn turn(
     value: u32,
 ) -> Result<Option<u32>, TurnsError>
     ensures same { consts.new ≡ consts.old }
-    ensures right { IsTurnAnswer (with_index (names_of consts.old) index.now value) test.now next.now result }
+    ensures right { Wherever (with_index (names_of consts.old) index.now value) (λ here. IsTurnAnswer here test.now next.now result) }
 {
     let len = consts.len();
     if set_index(consts, index, value).is_err() {
@@ -101,9 +102,9 @@ fn turn(
     }
 }
 
-/// The values of a loop's index, turn by turn (IEEE 1364-2005, sections 9.6 and 12.4.1): those of the definition, at most `most`.
-/// `Limit` where there are more, and it ends there, however many these are; any other error but `NoMemory` is a fault of a node of
-/// the header. The constants are unchanged.
+/// The values of a loop's index, turn by turn (IEEE 1364-2005, sections 9.6 and 12.4.1): those of the definition, at most `most`,
+/// wherever these are the constants that are declared before. `Limit` where there are more, and it ends there, however many these are;
+/// any other error but `NoMemory` is a fault of a node of the header. The constants are unchanged.
 pub fn turns_of(
     alloc: Global,
     consts: &mut Consts,
@@ -115,7 +116,8 @@ pub fn turns_of(
 ) -> Result<Items<u32>, TurnsError>
     requires { most ≤ 1000000 }
     ensures same { consts.new ≡ consts.old }
-    ensures right { IsTurnsAnswer (names_of consts.old) index.now start.now test.now next.now most result }
+    ensures right { Wherever (names_of consts.old) (λ here.
+        IsTurnsAnswer here index.now start.now test.now next.now most result) }
 {
     let mut value = match index_number(consts, start) {
         Ok(value) => value,

@@ -2,7 +2,9 @@ use Rattle.std.proofs.Common.{◌≡◌, ◌<◌, ◌≤◌, length, get_or, sub
 use Rattle.lv_ast.specs.declared.item.Setting.{Setting}
 use Rattle.lv_source.specs.Names.{with_name}
 use Rattle.lv_source.specs.Scopes.{parameter}
-use Rattle.lv_const.specs.Constants.{names_of}
+use Rattle.lv_const.specs.Constants.{names_of, entries_here}
+use Rattle.lv_const.specs.Wherever.{Wherever}
+use Rattle.lv_const.proofs.Declared.{entries-declared}
 use Rattle.lv_scopes.specs.Parameters.{IsSound, IsUnset}
 use Rattle.lv_scopes.proofs.ParamLaws.{set_first, set_more, set_none, set_named, set_sound}
 use Rattle.lv_scopes.proofs.params.set_params.Goals as goal
@@ -20,8 +22,8 @@ loop-setting-preserved c =
     (subst (λ v. names_of c.set_own.new.consts ≡
     with_name (names_of c.loop-setting.consts) s.name.name
     (Some (parameter (names_of c.loop-setting.consts) s.name c.args.params.now.signed c.args.params.now.range (names_of c.loop-setting.consts) v)))
-    c.get.ensures c.in-Ok.ensures.named)
-    (subst (λ v. IsSound (names_of c.loop-setting.consts) (names_of c.loop-setting.consts) c.args.params.now.range v) c.get.ensures c.in-Ok.ensures.sound)
+    c.get.ensures (c.in-Ok.ensures.named.at (entries_here c.loop-setting.consts) (entries-declared c.loop-setting.consts)))
+    (subst (λ v. Wherever (names_of c.loop-setting.consts) (λ here. IsSound here here c.args.params.now.range v)) c.get.ensures c.in-Ok.ensures.sound)
 
 pub returns-in-Err-clause-wrong : goal.returns-in-Err-clause-wrong
 returns-in-Err-clause-wrong c =
@@ -30,7 +32,7 @@ returns-in-Err-clause-wrong c =
     (subst (λ xs. c.loop-setting.setting-index < length xs) c.as_slice-setting-items.ensures c.loop-setting-test.true)
     (subst (λ xs. s ≡ get_or xs c.loop-setting.setting-index s) c.as_slice-setting-items.ensures c.setting-item.is)
     c.in-Err.error
-    (subst (λ v. IsUnset (names_of c.loop-setting.consts) (names_of c.loop-setting.consts) c.args.params.now.range v s.name.place c.in-Err.error)
+    (subst (λ v. Wherever (names_of c.loop-setting.consts) (λ here. IsUnset here here c.args.params.now.range v s.name.place c.in-Err.error))
     c.get.ensures c.in-Err.ensures.wrong)
 
 pub returns-clause-named : goal.returns-clause-named
@@ -42,3 +44,6 @@ pub returns-clause-sound : goal.returns-clause-sound
 returns-clause-sound c =
     set_sound c.args.consts.now c.loop-setting.consts c.args.params.now c.loop-setting.setting-index c.loop-setting.invariant
     (subst (λ xs. length xs ≤ c.loop-setting.setting-index) c.as_slice-setting-items.ensures c.loop-setting-test.false)
+
+pub returns-clause-added : goal.returns-clause-added
+returns-clause-added c = c.loop-setting.invariant.longer

@@ -5,7 +5,6 @@ use Rattle.std.specs.Prelude.{nat_lt, if◌then◌else◌}
 use Rattle.std.proofs.lemmas.List.Sums.{sum_by-cons}
 use Rattle.std.proofs.lemmas.Bool.Decides.{nat_tests}
 use Rattle.lv_bits.specs.Values.{signed_of, extended}
-use Rattle.lv_const.specs.Widths.{span}
 use Rattle.std.proofs.Math.Nat.{mod-eq_of_lt, pow-suc}
 use Rattle.std.proofs.lemmas.Nat.{mod-pow-add, mod_below}
 use Rattle.lv_ast.specs.declared.expr.Literal.{Literal}
@@ -13,7 +12,7 @@ use Rattle.lv_ast.specs.declared.expr.Path.{Path}
 use Rattle.lv_ast.specs.declared.expr.Expr.{Expr}
 use Rattle.lv_ast.specs.declared.expr.Expr.TheVariants as e
 use Rattle.lv_ast.specs.declared.expr.Expr.TheOpen.{Expr-F}
-use Rattle.lv_source.specs.Names.{Names, width_of}
+use Rattle.lv_source.specs.Names.{Names, Bounds, size, width_of}
 use Rattle.lv_source.specs.Values.{Meaning, widths, size_of, own_value, nowhere}
 use Rattle.lv_source.specs.Places.{all_bits, read_bits, rising}
 use Rattle.lv_source.specs.Meaning.{meanings}
@@ -145,12 +144,12 @@ read-all zero a = sym (mod_one a)
 read-all (suc n) a = read-append a (all_bits n) n ∙ (ap (λ k. k + a / 2 ^ n % 2 * 2 ^ length (all_bits n)) (read-all n a) ∙
     (ap (λ k. a % 2 ^ n + a / 2 ^ n % 2 * 2 ^ k) (length-all_bits n) ∙ next-bit n a))
 
-pub bare-value : (T : Bool) (left right w W a : ℕ) → span left right ≡ w → a < 2 ^ w →
-    extended T w W a ≡ extended T (length (all_bits (span left right))) W (read_bits a (all_bits (span left right)))
-bare-value T left right w W a e fits =
-    let r : read_bits a (all_bits (span left right)) ≡ a = read-all (span left right) a ∙ (ap (λ k. a % 2 ^ k) e ∙ mod-eq_of_lt fits) in
-    sym (ap (λ k. extended T (length (all_bits (span left right))) W k) r ∙
-    (ap (λ k. extended T k W a) (length-all_bits (span left right)) ∙ ap (λ k. extended T k W a) e))
+pub bare-value : (T : Bool) (b : Bounds) (w W a : ℕ) → size b ≡ w → a < 2 ^ w →
+    extended T w W a ≡ extended T (length (all_bits (size b))) W (read_bits a (all_bits (size b)))
+bare-value T b w W a e fits =
+    let r : read_bits a (all_bits (size b)) ≡ a = read-all (size b) a ∙ (ap (λ k. a % 2 ^ k) e ∙ mod-eq_of_lt fits) in
+    sym (ap (λ k. extended T (length (all_bits (size b))) W k) r ∙
+    (ap (λ k. extended T k W a) (length-all_bits (size b)) ∙ ap (λ k. extended T k W a) e))
 
 pub length-rising : (from : ℤ) (n : ℕ) → length (rising from n) ≡ n
 length-rising from zero = refl

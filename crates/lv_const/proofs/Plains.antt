@@ -19,7 +19,7 @@ use Rattle.lv_const.specs.declared.constant.Const.{Const}
 use Rattle.lv_const.specs.declared.full.Full.{Full}
 use Rattle.lv_const.specs.declared.error.ConstError.{ConstError}
 use Rattle.lv_const.specs.declared.error.ConstError.TheVariants as x
-use Rattle.lv_const.specs.Constants.{constant_of}
+use Rattle.lv_const.specs.Constants.{bounds_of, constant_of}
 use Rattle.lv_const.specs.Answers.{HasOwn, HasNone, HasNoPlain, IsOwn, HasFull, IsFull, HasPlain, IsPlain, HasJoint, HasNoJoint, IsJoint, inside, wide, total_width, joined_sites, read_role}
 use Rattle.lv_const.specs.Joins.{Valued, literal_word, literal_full, joined_full, is_count, repeated_full}
 use Rattle.lv_const.specs.Picks.{IsSized, whole_own, whole_full}
@@ -63,7 +63,7 @@ module _ (early : Path → Bool) (names : Names) (path : Path) (c : Const)
   pub full-whole : IsPlain early (walk_step names (Expr-F.Name path [])) joined (Ok (whole_full c))
   full-whole = record {
     right = plain-node early names joined (Expr-F.Name path []) (whole_full c) refl whole-right
-        (λ W T v. rw known (sym (leaves.bare-value T c.left c.right c.word.width W c.word.value z.spans z.fits))) z.fits (λ j fixed W T. divides-none);
+        (λ W T v. rw known (sym (leaves.bare-value T (bounds_of c) c.word.width W c.word.value z.spans z.fits))) z.fits (λ j fixed W T. divides-none);
     wrong = tt;
   }
 

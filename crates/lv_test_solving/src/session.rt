@@ -2,7 +2,8 @@ use crate::sets::{add_numbers, lits_of};
 use lv_bits::NoMemory;
 use lv_check::{Checked, Checker};
 use lv_clauses::{Assignment, ClauseSet, Derivation, are_within};
-use lv_solver::{Answer, Session, are_apart};
+use lv_session::{Session, are_apart};
+use lv_solver::Answer;
 use std::alloc::Global;
 use std::test::Fail;
 

@@ -16,8 +16,8 @@ use lv_netlist::{Builder, Graph};
 use lv_unroll::{Nodes, agreement, always, both, either, matching, negated};
 use std::alloc::Global;
 
-// A node that is 1 where x isn't 0 and y is.
-fn unless(b: &mut Builder, x: u64, y: u64) -> Result<u64, NoMemory>
+/// A node that is 1 where x isn't 0 and y is.
+pub fn unless(b: &mut Builder, x: u64, y: u64) -> Result<u64, NoMemory>
     requires left { x < length b.old.nodes }
     requires right { y < length b.old.nodes }
     ensures { IfOk result (λ at. GivesTest b.old b.new at (λ ws. is_on b.old ws x && not (is_on b.old ws y))) }
@@ -27,8 +27,13 @@ fn unless(b: &mut Builder, x: u64, y: u64) -> Result<u64, NoMemory>
     Ok(at)
 }
 
-// A node that is 1 where both states are an initial pair.
-fn initial_pair(b: &mut Builder, task: &Task, left: &[u64], right: &[u64]) -> Result<u64, NoMemory>
+/// A node that is 1 where both states are an initial pair.
+pub fn initial_pair(
+    b: &mut Builder,
+    task: &Task,
+    left: &[u64],
+    right: &[u64],
+) -> Result<u64, NoMemory>
     requires left { IsTableOf b.old task.now.graph left.now }
     requires right { IsTableOf b.old task.now.graph right.now }
     ensures { IfOk result (λ at.
@@ -71,8 +76,8 @@ fn all_allowed(
     Ok(all)
 }
 
-// A node that is 1 where what both copies show agrees, if they are aligned, and the inputs of all these cycles are allowed.
-fn alike(
+/// A node that is 1 where what both copies show agrees, if they are aligned, and the inputs of all these cycles are allowed.
+pub fn alike(
     alloc: Global,
     b: &mut Builder,
     task: &Task,
@@ -98,8 +103,8 @@ fn alike(
     Ok(at)
 }
 
-// A node that isn't 0 where the next moment is aligned.
-fn next_aligned(
+/// A node that isn't 0 where the next moment is aligned.
+pub fn next_aligned(
     alloc: Global,
     b: &mut Builder,
     task: &Task,

@@ -42,11 +42,7 @@ fn joined(widths: Vec<u32>, more: &[u32]) -> Result<Vec<u32>, NoMemory>
 }
 
 /// The widths of a query's words: the left registers, the right registers, the inputs of each cycle, and 1.
-pub(crate) fn product_widths(
-    alloc: Global,
-    graph: &Graph,
-    cycles: u64,
-) -> Result<Vec<u32>, NoMemory>
+pub fn product_widths(alloc: Global, graph: &Graph, cycles: u64) -> Result<Vec<u32>, NoMemory>
     ensures is { IfOk result (λ widths. widths.items ≡ product_widths graph.now cycles) }
     ensures widths { IfOk result (λ widths. AreWidths widths.items) }
 {
@@ -75,7 +71,7 @@ fn name_of(alloc: Global, number: u64) -> Result<Text, NoMemory>
 }
 
 /// A builder with an input of each of these widths and nothing else.
-pub(crate) fn open(alloc: Global, widths: &[u32]) -> Result<Builder, NoMemory>
+pub fn open(alloc: Global, widths: &[u32]) -> Result<Builder, NoMemory>
     requires { AreWidths widths.now }
     ensures { IfOk result (Opens widths.now) }
 {
@@ -88,7 +84,7 @@ pub(crate) fn open(alloc: Global, widths: &[u32]) -> Result<Builder, NoMemory>
 }
 
 /// The numbers from this one on, so many.
-pub(crate) fn range(alloc: Global, from: u64, count: u64) -> Result<Vec<u64>, NoMemory>
+pub fn range(alloc: Global, from: u64, count: u64) -> Result<Vec<u64>, NoMemory>
     requires { from + count < 2 ^ 64 }
     ensures { IfOk result (λ nodes. nodes.items ≡ range_with_len from count) }
 {
@@ -101,7 +97,7 @@ pub(crate) fn range(alloc: Global, from: u64, count: u64) -> Result<Vec<u64>, No
 }
 
 /// The nodes of each cycle's inputs, the first of them at `from`.
-pub(crate) fn cycle_nodes(
+pub fn cycle_nodes(
     alloc: Global,
     from: u64,
     count: u64,

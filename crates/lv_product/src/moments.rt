@@ -56,8 +56,8 @@ fn met(b: &mut Builder, graph: &Graph, k: u64, left: &[u64], right: &[u64]) -> R
     Ok(met)
 }
 
-// A node that isn't 0 where the candidate holds; `aligned` is the truth value of the moment.
-fn holds(
+/// A node that isn't 0 where the candidate holds; `aligned` is the truth value of the moment.
+pub fn holds(
     b: &mut Builder,
     graph: &Graph,
     candidate: Candidate,

@@ -129,8 +129,8 @@ fn cycles_of(
     Ok(inputs)
 }
 
-// The parts of the words.
-fn pair_of(
+/// The parts of the words.
+pub fn pair_of(
     alloc: Global,
     registers: u64,
     inputs: u64,

@@ -134,7 +134,7 @@ fn copies(alloc: Global, whole: &Graph, goal: u64) -> Result<(Builder, u64), NoM
 }
 
 /// A graph with the same inputs and those nodes that the goal rests on, and its goal. The graph has no registers.
-pub(crate) fn trim(alloc: Global, whole: Graph, goal: u64) -> Result<(Graph, u64), NoMemory>
+pub fn trim(alloc: Global, whole: Graph, goal: u64) -> Result<(Graph, u64), NoMemory>
     requires closed { whole.registers ≡ [] }
     requires within { goal < length whole.nodes }
     ensures { IfOk result (λ p. IsTrimmed whole p.0 goal p.1) }

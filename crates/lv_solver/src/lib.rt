@@ -3,14 +3,12 @@
 
 mod analyze;
 mod heap;
-mod keep;
 mod marked;
 mod minimize;
 mod order;
 mod resolve;
 mod seen;
-mod session;
 mod solve_set;
 
-pub use session::{Session, are_apart};
-pub use solve_set::{Answer, Work, solve, solve_counted};
+pub use order::Order;
+pub use solve_set::{Answer, End, Work, search, solve, solve_counted};

@@ -1,8 +1,9 @@
 use crate::sets::{add_numbers, lits_of};
 use lv_bits::NoMemory;
 use lv_check::{Checked, Checker};
-use lv_clauses::{Assignment, ClauseSet, Derivation, are_within};
-use lv_solver::{Answer, Session, are_apart};
+use lv_clauses::{Assignment, ClauseSet, Derivation, Lit, are_within};
+use lv_session::{Session, are_apart};
+use lv_solver::Answer;
 use std::alloc::Global;
 use std::test::Fail;
 
@@ -17,7 +18,7 @@ fn set_of(alloc: Global, vars: u64, clauses: &[&[i64]]) -> Result<ClauseSet, NoM
 
 /// What is answered, and whether it was seen to be right.
 #[derive(Clone, Copy, Debug, PartialEq, Eq)]
-enum Kind {
+pub enum Kind {
     Model,
     Refuted,
     Budget,
@@ -55,7 +56,21 @@ fn kind_of(alloc: Global, set: &ClauseSet, answer: &Answer) -> Result<Kind, NoMe
     Ok(if right { kind } else { Kind::Wrong })
 }
 
-/// What is answered where these literals are assumed, and how many clauses there are then.
+/// What is answered where these literals are assumed.
+pub fn ask_lits(
+    alloc: Global,
+    session: &mut Session,
+    lits: &[Lit],
+    budget: u64,
+) -> Result<Kind, NoMemory> {
+    if !are_within(lits, session.clauses().vars()) || !are_apart(lits) {
+        return Ok(Kind::Unasked);
+    }
+    let answer = session.ask(lits, budget)?;
+    kind_of(alloc, session.asked(), &answer)
+}
+
+/// The same, and how many clauses there are then.
 fn ask(
     alloc: Global,
     session: &mut Session,
@@ -63,11 +78,7 @@ fn ask(
     budget: u64,
 ) -> Result<(Kind, u64), NoMemory> {
     let lits = lits_of(alloc, assumed)?;
-    if !are_within(&lits, session.clauses().vars()) || !are_apart(&lits) {
-        return Ok((Kind::Unasked, session.clauses().len()));
-    }
-    let answer = session.ask(&lits, budget)?;
-    let kind = kind_of(alloc, session.asked(), &answer)?;
+    let kind = ask_lits(alloc, session, &lits, budget)?;
     Ok((kind, session.clauses().len()))
 }
 

@@ -1,0 +1,4 @@
+pub mod Keeping
+pub mod Asking
+pub mod Fitting
+pub mod Blocking

@@ -1,0 +1,4 @@
+pub mod Guarding
+pub mod Reached
+pub mod Places
+pub mod Concluded

@@ -1,0 +1,5 @@
+pub mod Forms
+pub mod Joins
+pub mod Late
+pub mod Picks
+pub mod Places

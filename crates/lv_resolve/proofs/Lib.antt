@@ -1,3 +1,10 @@
+pub mod Bounds
 pub mod Covers
+pub mod FixedLaws
 pub mod LateNames
+pub mod Nodes
+pub mod PartLaws
 pub mod Rules
+pub mod Settles
+pub mod Steady
+pub mod Zeros

@@ -125,15 +125,15 @@ pub record HasOperand (S : Signals) (w : Walk) (ok : Bool) (o : Operand) : Type 
   pub signed : o.signed ≡ w.shown.reading.meaning.signed
   pub constant : o.constant ≡ w.shown.reading.constant
 
-pub record HasForm (S : Signals) (here : Here) (sites : Sites) (w : Walk) (ok : Bool) (f : Form) : Type 0 where
+pub record HasForm (S : Signals) (here : Here) (sites : Sites) (least : ℕ) (w : Walk) (ok : Bool) (f : Form) : Type 0 where
   pub operand : HasOperand S w ok f.operand
-  pub cover : Covered here sites f.operand.width f.notes.clocks f.notes.divisors
+  pub cover : Covered here sites least f.notes.clocks f.notes.divisors
 
 pub record HasNoForm (here : Here) (sites : Sites) (e : ResolveError) : Type 0 where
   pub told : (W : ℕ) (T : Bool) → Told here (sites W T) e
 
-pub record FormAnswer (S : Signals) (here : Here) (sites : Sites) (w : Walk) (ok : Bool) (r : Result Form ResolveError) : Type 0 where
-  pub right : IfOk r (HasForm S here sites w ok)
+pub record FormAnswer (S : Signals) (here : Here) (sites : Sites) (least : ℕ) (w : Walk) (ok : Bool) (r : Result Form ResolveError) : Type 0 where
+  pub right : IfOk r (HasForm S here sites least w ok)
   pub wrong : IfErr r (HasNoForm here sites)
 
 -- the nodes of an expression that is read, or joined by a concatenation
@@ -144,6 +144,13 @@ read_sites joined w W T = w.sites (read_role joined) None W T
 abbrev pub operand_sites : Bool → Walk → Sites
 operand_sites full w W T = if full then own_sites Value None w else w.sites Value None W T
 
+abbrev pub wide : Walk → ℕ
+wide w = w.shown.reading.meaning.width
+
+-- the greatest width of a divisor in it that waits
+abbrev pub operand_least : Bool → Walk → ℕ
+operand_least full w = if full then 0 else wide w
+
 -- at its own width and sign
 abbrev pub settled_sites : Sites → Walk → Sites
 settled_sites sites w W T = sites w.shown.reading.meaning.width w.shown.reading.meaning.signed
@@ -153,7 +160,8 @@ member_sites w W T = own_sites Joined None w
 
 -- a name, which is read or joined alike
 pub record NameAnswer (S : Signals) (here : Here) (path : Path) (ws : List WalkStep) (ok : Bool) (r : Result Form ResolveError) : Type 0 where
-  pub told : (joined : Bool) → FormAnswer S here (read_sites joined (walk_step here.names (Expr-F.Name path ws))) (walk_step here.names (Expr-F.Name path ws)) ok r
+  pub told : (joined : Bool) → FormAnswer S here (read_sites joined (walk_step here.names (Expr-F.Name path ws)))
+      (wide (walk_step here.names (Expr-F.Name path ws))) (walk_step here.names (Expr-F.Name path ws)) ok r
 
 -- ---- two operands
 
@@ -173,9 +181,12 @@ first_sites op a b W T = operand_sites (is_apart op && not (keeps_width op)) a W
 abbrev pub pair_sites : Op → Walk → Walk → Sites
 pair_sites op a b W T = if keeps_width op || is_apart op then first_sites op a b W T else both_sites a b (both_width a b) (both_signed a b)
 
--- the greatest width of a divisor among them
+-- the greatest width of a divisor among them that waits
+abbrev pub first_least : Op → Walk → Walk → ℕ
+first_least op a b = if is_apart op then (if keeps_width op then wide a else 0) else both_width a b
+
 abbrev pub pair_least : Op → Walk → Walk → ℕ
-pair_least op a b = if is_apart op then a.shown.reading.meaning.width else both_width a b
+pair_least op a b = if keeps_width op then (if is_apart op then wide a else both_width a b) else 0
 
 pub record HasPair (S : Signals) (here : Here) (sites : Sites) (least : ℕ) (a b : Walk) (oka okb : Bool) (p : Pair) : Type 0 where
   pub left : HasOperand S a oka p.left

@@ -1,9 +1,10 @@
-ghost use Rattle.std.specs.Prelude.{◌≡◌, map, true};
+ghost use Rattle.std.specs.Prelude.{◌≡◌, ◌∷◌, ◌&&◌, map, true};
 ghost use Rattle.std.specs.List.{list_all};
+ghost use Rattle.lv_ast.specs.declared.expr.Expr.TheOpen.{Select-F};
 ghost use Rattle.lv_source.specs.Names.{Declared};
 ghost use Rattle.lv_source.specs.Sites.{walk, walk_select};
 ghost use Rattle.lv_flat.specs.Signals.{declared_all};
-ghost use Rattle.lv_resolve.specs.Forms.{Anywhere, FormAnswer, PairAnswer, PartsAnswer, has_operands, has_select_operands, read_sites, operand_sites, member_sites, both_sites, both_width, pair_sites, pair_least, NameAnswer};
+ghost use Rattle.lv_resolve.specs.Forms.{Anywhere, FormAnswer, PairAnswer, PartsAnswer, has_operands, has_select_operands, read_sites, operand_sites, operand_least, wide, member_sites, both_sites, both_width, pair_sites, pair_least, NameAnswer};
 ghost use Rattle.lv_resolve.specs.Picks.{PickAnswer, PicksAnswer, IsHead, head_bounds};
 
 use crate::error::ResolveError;
@@ -20,7 +21,7 @@ use crate::naming::{
 };
 use crate::picks::{Head, Pick, Picks};
 use crate::place::{Bindings, Place};
-use crate::settle::{compared, no_parts, settled, signal_at};
+use crate::settle::{compared, is_logical, no_parts, settled, signal_at};
 use lv_ast::{Expr, Path, Select};
 use lv_bits::Op;
 use sqlite_items::Boxed;
@@ -28,6 +29,7 @@ use std::alloc::Global;
 
 /// The flat tree of an expression that is read, or joined by a concatenation.
 #[cycle(forms)]
+#[tactic(none)]
 pub fn form<B: Bindings>(
     alloc: Global,
     place: &Place<B>,
@@ -35,51 +37,67 @@ pub fn form<B: Bindings>(
     joined: bool,
 ) -> Result<Form, ResolveError>
     ensures { Anywhere (declared_all place.now.signals.now) (B.numbers place.now.bindings.now) place.now.all.now place.now.early.now (λ here.
-        FormAnswer (declared_all place.now.signals.now) here (read_sites joined (walk here.names expr.now)) (walk here.names expr.now) (has_operands expr.now) result) }
+        FormAnswer (declared_all place.now.signals.now) here (read_sites joined (walk here.names expr.now)) (wide (walk here.names expr.now)) (walk here.names expr.now) (has_operands expr.now) result) }
 {
     match expr {
         Expr::Lit(literal) => literal_form(alloc, literal, joined),
         Expr::Name(path, selects) => name(alloc, place, path, selects.as_slice()),
-        Expr::Un(op, a) => {
-            let a = operand(alloc, place, a, !op.keeps_width())?;
-            unary(alloc, *op, a)
-        }
-        Expr::Bin(op, a, b) => {
-            let pair = operands(alloc, place, *op, a, b)?;
-            binary(alloc, *op, pair)
-        }
-        Expr::Div(a, b) => {
-            let pair = both(alloc, place, a, b)?;
-            division(alloc, false, place_of(expr), b.get(), place_of(b.get()), pair)
-        }
-        Expr::Rem(a, b) => {
-            let pair = both(alloc, place, a, b)?;
-            division(alloc, true, place_of(expr), b.get(), place_of(b.get()), pair)
-        }
-        Expr::Cond(c, a, b) => {
-            let c = operand(alloc, place, c, true)?;
-            let a = operand(alloc, place, a, false)?;
-            let b = operand(alloc, place, b, false)?;
-            choice(alloc, c, a, b)
-        }
-        Expr::Cat(parts) => {
-            let parts = members(alloc, place, parts.as_slice())?;
-            concatenation(place_of(expr), parts)
-        }
-        Expr::Rep(count, parts) => {
-            let count = fixed(place, count.get())?;
-            let parts = members(alloc, place, parts.as_slice())?;
-            repetition(place_of(expr), copies(count), parts)
-        }
-        Expr::Cast(signed, a) => {
-            let a = operand(alloc, place, a, true)?;
-            cast(alloc, *signed, a)
-        }
+        Expr::Un(op, a) => match operand(alloc, place, a, !op.keeps_width()) {
+            Err(error) => Err(error),
+            Ok(a) => unary(alloc, *op, a),
+        },
+        Expr::Bin(op, a, b) => match operands(alloc, place, *op, a, b) {
+            Err(error) => Err(error),
+            Ok(pair) => binary(alloc, *op, pair),
+        },
+        Expr::Div(a, b) => match both(alloc, place, a, b) {
+            Err(error) => Err(error),
+            Ok(pair) => {
+                let start = place_of(expr);
+                division(alloc, false, start, b.get(), place_of(b.get()), pair)
+            }
+        },
+        Expr::Rem(a, b) => match both(alloc, place, a, b) {
+            Err(error) => Err(error),
+            Ok(pair) => {
+                let start = place_of(expr);
+                division(alloc, true, start, b.get(), place_of(b.get()), pair)
+            }
+        },
+        Expr::Cond(c, a, b) => match operand(alloc, place, c, true) {
+            Err(error) => Err(error),
+            Ok(c) => match operand(alloc, place, a, false) {
+                Err(error) => Err(error),
+                Ok(a) => match operand(alloc, place, b, false) {
+                    Err(error) => Err(error),
+                    Ok(b) => choice(alloc, c, a, b),
+                },
+            },
+        },
+        Expr::Cat(parts) => match members(alloc, place, parts.as_slice()) {
+            Err(error) => Err(error),
+            Ok(parts) => concatenation(place_of(expr), parts),
+        },
+        Expr::Rep(count, parts) => match fixed(place, count.get()) {
+            Err(error) => Err(error),
+            Ok(count) => match members(alloc, place, parts.as_slice()) {
+                Err(error) => Err(error),
+                Ok(parts) => {
+                    let start = place_of(expr);
+                    repetition(start, copies(count), parts)
+                }
+            },
+        },
+        Expr::Cast(signed, a) => match operand(alloc, place, a, true) {
+            Err(error) => Err(error),
+            Ok(a) => cast(alloc, *signed, a),
+        },
     }
 }
 
 /// An operand: what reaches the node reaches it, or it keeps its own width and sign (`full`).
 #[cycle(forms)]
+#[tactic(none)]
 fn operand<B: Bindings>(
     alloc: Global,
     place: &Place<B>,
@@ -87,32 +105,40 @@ fn operand<B: Bindings>(
     full: bool,
 ) -> Result<Form, ResolveError>
     ensures { Anywhere (declared_all place.now.signals.now) (B.numbers place.now.bindings.now) place.now.all.now place.now.early.now (λ here.
-        FormAnswer (declared_all place.now.signals.now) here (operand_sites full (walk here.names expr.now)) (walk here.names expr.now) (has_operands expr.now) result) }
+        FormAnswer (declared_all place.now.signals.now) here (operand_sites full (walk here.names expr.now)) (operand_least full (walk here.names expr.now)) (walk here.names expr.now) (has_operands expr.now) result) }
 {
-    let found = form(alloc, place, expr.get(), false)?;
-    if full {
-        settled(alloc, place.all, found)
-    } else {
-        Ok(found)
+    match form(alloc, place, expr.get(), false) {
+        Err(error) => Err(error),
+        Ok(found) => {
+            if full {
+                settled(alloc, place.all, found)
+            } else {
+                Ok(found)
+            }
+        }
     }
 }
 
 /// An operand of a concatenation.
 #[cycle(forms)]
+#[tactic(none)]
 fn member<B: Bindings>(
     alloc: Global,
     place: &Place<B>,
     expr: &Expr,
 ) -> Result<Form, ResolveError>
     ensures { Anywhere (declared_all place.now.signals.now) (B.numbers place.now.bindings.now) place.now.all.now place.now.early.now (λ here.
-        FormAnswer (declared_all place.now.signals.now) here (member_sites (walk here.names expr.now)) (walk here.names expr.now) (has_operands expr.now) result) }
+        FormAnswer (declared_all place.now.signals.now) here (member_sites (walk here.names expr.now)) 0 (walk here.names expr.now) (has_operands expr.now) result) }
 {
-    let found = form(alloc, place, expr, true)?;
-    settled(alloc, place.all, found)
+    match form(alloc, place, expr, true) {
+        Err(error) => Err(error),
+        Ok(found) => settled(alloc, place.all, found),
+    }
 }
 
 /// Two operands that what reaches the node reaches.
 #[cycle(forms)]
+#[tactic(none)]
 fn both<B: Bindings>(
     alloc: Global,
     place: &Place<B>,
@@ -123,13 +149,18 @@ fn both<B: Bindings>(
         PairAnswer (declared_all place.now.signals.now) here (both_sites (walk here.names a.now) (walk here.names b.now))
         (both_width (walk here.names a.now) (walk here.names b.now)) (walk here.names a.now) (walk here.names b.now) (has_operands a.now) (has_operands b.now) result) }
 {
-    let a = operand(alloc, place, a, false)?;
-    let b = operand(alloc, place, b, false)?;
-    pair(a, b)
+    match operand(alloc, place, a, false) {
+        Err(error) => Err(error),
+        Ok(left) => match operand(alloc, place, b, false) {
+            Err(error) => Err(error),
+            Ok(right) => pair(left, right),
+        },
+    }
 }
 
 /// The operands of a binary operator.
 #[cycle(forms)]
+#[tactic(none)]
 fn operands<B: Bindings>(
     alloc: Global,
     place: &Place<B>,
@@ -141,14 +172,21 @@ fn operands<B: Bindings>(
         PairAnswer (declared_all place.now.signals.now) here (pair_sites op (walk here.names a.now) (walk here.names b.now))
         (pair_least op (walk here.names a.now) (walk here.names b.now)) (walk here.names a.now) (walk here.names b.now) (has_operands a.now) (has_operands b.now) result) }
 {
-    let a = operand(alloc, place, a, op.is_apart() && !op.keeps_width())?;
-    let b = operand(alloc, place, b, op.is_apart())?;
-    let found = pair(a, b)?;
-    compared(alloc, place.all, op, found)
+    match operand(alloc, place, a, is_logical(op)) {
+        Err(error) => Err(error),
+        Ok(left) => match operand(alloc, place, b, op.is_apart()) {
+            Err(error) => Err(error),
+            Ok(right) => match pair(left, right) {
+                Err(error) => Err(error),
+                Ok(found) => compared(alloc, place.all, op, found),
+            },
+        },
+    }
 }
 
 /// The operands of a concatenation, each at its own width and sign.
 #[cycle(forms)]
+#[tactic(none)]
 fn members<B: Bindings>(
     alloc: Global,
     place: &Place<B>,
@@ -159,14 +197,20 @@ fn members<B: Bindings>(
 {
     let mut parts = no_parts(alloc);
     for expr in exprs {
-        let part = member(alloc, place, expr)?;
-        parts = with_part(parts, part)?;
+        match member(alloc, place, expr) {
+            Err(error) => return Err(error),
+            Ok(part) => match with_part(parts, part) {
+                Err(error) => return Err(error),
+                Ok(more) => parts = more,
+            },
+        }
     }
     Ok(parts)
 }
 
 /// A name with its selects.
 #[cycle(forms)]
+#[tactic(none)]
 fn name<B: Bindings>(
     alloc: Global,
     place: &Place<B>,
@@ -178,34 +222,41 @@ fn name<B: Bindings>(
         (list_all has_select_operands selects.now) result) }
 {
     match place.bindings.signal(path) {
-        Some(number) => {
-            let Some(signal) = signal_at(place.signals, number) else {
-                return Err(ResolveError::UnknownName(path.place));
-            };
-            let picks = picks(alloc, place, signal_head(signal), path.place, selects)?;
-            signal_form(alloc, number, signal.sort, path.place, picks)
-        }
-        None => {
-            let Some(constant) = constant(place.all, path) else {
-                return Err(ResolveError::UnknownName(path.place));
-            };
-            let picks = picks(alloc, place, const_head(constant), path.place, selects)?;
-            Ok(const_form(alloc, constant, picks))
-        }
+        Some(number) => match signal_at(place.signals, number) {
+            None => Err(ResolveError::UnknownName(path.place)),
+            Some(signal) => {
+                let head = signal_head(signal);
+                match picks(alloc, place, &head, path.place, selects) {
+                    Err(error) => Err(error),
+                    Ok(found) => signal_form(alloc, number, signal.sort, path.place, found),
+                }
+            }
+        },
+        None => match constant(place.all, path) {
+            None => Err(ResolveError::UnknownName(path.place)),
+            Some(constant) => {
+                let head = const_head(&constant);
+                match picks(alloc, place, &head, path.place, selects) {
+                    Err(error) => Err(error),
+                    Ok(found) => Ok(const_form(alloc, &constant, found)),
+                }
+            }
+        },
     }
 }
 
 /// The selects of a name that is declared so.
 #[cycle(forms)]
+#[tactic(none)]
 fn picks<B: Bindings>(
     alloc: Global,
     place: &Place<B>,
-    head: Head,
+    head: &Head,
     at: u64,
     selects: &[Select],
 ) -> Result<Picks, ResolveError>
     ensures { Anywhere (declared_all place.now.signals.now) (B.numbers place.now.bindings.now) place.now.all.now place.now.early.now (λ here.
-        (d : Declared) → IsHead d head → PicksAnswer (declared_all place.now.signals.now) here d (list_all has_select_operands selects.now)
+        (d : Declared) → IsHead d head.now → PicksAnswer (declared_all place.now.signals.now) here d (list_all has_select_operands selects.now)
         (map (walk_select here.names) selects.now) at result) }
 {
     if head.array {
@@ -217,73 +268,108 @@ fn picks<B: Bindings>(
     if selects.len() != 1 || !head.ranged {
         return Err(ResolveError::Range(at));
     }
-    let pick = pick(alloc, place, head, at, &selects[0])?;
-    picked(alloc, head, pick)
+    match pick(alloc, place, head, at, &selects[0]) {
+        Err(error) => Err(error),
+        Ok(found) => picked(alloc, head, found),
+    }
 }
 
 /// Those of an array.
 #[cycle(forms)]
+#[tactic(none)]
 fn array_picks<B: Bindings>(
     alloc: Global,
     place: &Place<B>,
-    head: Head,
+    head: &Head,
     at: u64,
     selects: &[Select],
 ) -> Result<Picks, ResolveError>
-    requires { head.array ≡ true }
+    requires { head.now.array ≡ true }
     ensures { Anywhere (declared_all place.now.signals.now) (B.numbers place.now.bindings.now) place.now.all.now place.now.early.now (λ here.
-        (d : Declared) → IsHead d head → PicksAnswer (declared_all place.now.signals.now) here d (list_all has_select_operands selects.now)
+        (d : Declared) → IsHead d head.now → PicksAnswer (declared_all place.now.signals.now) here d (list_all has_select_operands selects.now)
         (map (walk_select here.names) selects.now) at result) }
 {
     if selects.len() == 0 {
         return Err(ResolveError::UnknownName(at));
     }
-    let Select::Bit(index) = &selects[0] else {
-        return Err(ResolveError::UnknownName(at));
-    };
-    if selects.len() == 1 {
-        let index = operand(alloc, place, index, true)?;
-        return element(alloc, head, index);
+    match &selects[0] {
+        Select::Bit(index) => indexed(alloc, place, head, at, index, &selects[1..]),
+        _ => Err(ResolveError::UnknownName(at)),
     }
-    if selects.len() != 2 || !head.ranged {
+}
+
+/// Those of an array behind that of an element.
+#[cycle(forms)]
+#[tactic(none)]
+fn indexed<B: Bindings>(
+    alloc: Global,
+    place: &Place<B>,
+    head: &Head,
+    at: u64,
+    index: &Boxed<Expr>,
+    rest: &[Select],
+) -> Result<Picks, ResolveError>
+    requires { head.now.array ≡ true }
+    ensures { Anywhere (declared_all place.now.signals.now) (B.numbers place.now.bindings.now) place.now.all.now place.now.early.now (λ here.
+        (d : Declared) → IsHead d head.now → PicksAnswer (declared_all place.now.signals.now) here d (has_operands index.now && list_all has_select_operands rest.now)
+        (Select-F.Bit (walk here.names index.now) ∷ map (walk_select here.names) rest.now) at result) }
+{
+    if rest.len() == 0 {
+        return match operand(alloc, place, index, true) {
+            Err(error) => Err(error),
+            Ok(index) => element(alloc, head, index),
+        };
+    }
+    if rest.len() != 1 || !head.ranged {
         return Err(ResolveError::Range(at));
     }
-    let index = operand(alloc, place, index, true)?;
-    let pick = pick(alloc, place, head, at, &selects[1])?;
-    element_bits(alloc, head, index, pick)
+    match operand(alloc, place, index, true) {
+        Err(error) => Err(error),
+        Ok(index) => match pick(alloc, place, head, at, &rest[0]) {
+            Err(error) => Err(error),
+            Ok(found) => element_bits(alloc, head, index, found),
+        },
+    }
 }
 
 /// A select of bits.
 #[cycle(forms)]
+#[tactic(none)]
 fn pick<B: Bindings>(
     alloc: Global,
     place: &Place<B>,
-    head: Head,
+    head: &Head,
     at: u64,
     select: &Select,
 ) -> Result<Pick, ResolveError>
     ensures { Anywhere (declared_all place.now.signals.now) (B.numbers place.now.bindings.now) place.now.all.now place.now.early.now (λ here.
-        PickAnswer (declared_all place.now.signals.now) here (head_bounds head) (has_select_operands select.now) (walk_select here.names select.now) at result) }
+        PickAnswer (declared_all place.now.signals.now) here (head_bounds head.now) (has_select_operands select.now) (walk_select here.names select.now) at result) }
 {
     match select {
-        Select::Bit(a) => {
-            let index = operand(alloc, place, a, true)?;
-            bit_pick(alloc, index)
-        }
-        Select::Part(a, b) => {
-            let left = fixed(place, a.get())?;
-            let right = fixed(place, b.get())?;
-            part_pick(alloc, head, at, left, right)
-        }
-        Select::Up(a, b) => {
-            let index = operand(alloc, place, a, true)?;
-            let count = fixed(place, b.get())?;
-            run_pick(alloc, at, true, index, count)
-        }
-        Select::Down(a, b) => {
-            let index = operand(alloc, place, a, true)?;
-            let count = fixed(place, b.get())?;
-            run_pick(alloc, at, false, index, count)
-        }
+        Select::Bit(a) => match operand(alloc, place, a, true) {
+            Err(error) => Err(error),
+            Ok(index) => bit_pick(alloc, index),
+        },
+        Select::Part(a, b) => match fixed(place, a.get()) {
+            Err(error) => Err(error),
+            Ok(left) => match fixed(place, b.get()) {
+                Err(error) => Err(error),
+                Ok(right) => part_pick(alloc, head, at, left, right),
+            },
+        },
+        Select::Up(a, b) => match operand(alloc, place, a, true) {
+            Err(error) => Err(error),
+            Ok(index) => match fixed(place, b.get()) {
+                Err(error) => Err(error),
+                Ok(count) => run_pick(alloc, at, true, index, count),
+            },
+        },
+        Select::Down(a, b) => match operand(alloc, place, a, true) {
+            Err(error) => Err(error),
+            Ok(index) => match fixed(place, b.get()) {
+                Err(error) => Err(error),
+                Ok(count) => run_pick(alloc, at, false, index, count),
+            },
+        },
     }
 }

@@ -36,8 +36,8 @@ pub fn signal_head(signal: &Signal) -> Head
     }
 }
 
-pub fn const_head(constant: Const) -> Head
-    ensures { (name : Name) → IsHead (constant_of name constant) result }
+pub fn const_head(constant: &Const) -> Head
+    ensures { (name : Name) → IsHead (constant_of name constant.now) result }
 {
     Head {
         left: constant.left,
@@ -68,8 +68,8 @@ pub fn bit_pick(alloc: Global, index: Form) -> Result<Pick, ResolveError>
     })
 }
 
-fn is_ordered(head: Head, left: u32, right: u32) -> bool
-    ensures { result ≡ is_in_order (record { left = head.left; right = head.right }) left right }
+fn is_ordered(head: &Head, left: u32, right: u32) -> bool
+    ensures { result ≡ is_in_order (record { left = head.now.left; right = head.now.right }) left right }
 {
     if head.left < head.right {
         left <= right
@@ -81,13 +81,13 @@ fn is_ordered(head: Head, left: u32, right: u32) -> bool
 /// `[left:right]`. `Range` at the name where a bound is none, they stand in the other order, or name more than 128 bits.
 pub fn part_pick(
     alloc: Global,
-    head: Head,
+    head: &Head,
     at: u64,
     left: Number,
     right: Number,
 ) -> Result<Pick, ResolveError>
-    ensures ok { IfOk result (λ p. IsPart head left right p) }
-    ensures err { IfErr result (λ x. IsNoPart head left right at x) }
+    ensures ok { IfOk result (λ p. IsPart head.now left right p) }
+    ensures err { IfErr result (λ x. IsNoPart head.now left right at x) }
 {
     match (bound(left), bound(right)) {
         (Some(left), Some(right)) => {
@@ -156,8 +156,8 @@ pub fn run_pick(
 }
 
 /// A name without selects.
-pub fn whole(alloc: Global, head: Head) -> Picks
-    ensures { IsWhole head result }
+pub fn whole(alloc: Global, head: &Head) -> Picks
+    ensures { IsWhole head.now result }
 {
     Picks {
         selects: Items::new(alloc),
@@ -169,8 +169,8 @@ pub fn whole(alloc: Global, head: Head) -> Picks
 }
 
 /// A name with a select of bits.
-pub fn picked(alloc: Global, head: Head, pick: Pick) -> Result<Picks, ResolveError>
-    ensures ok { IfOk result (λ p. IsPicked head pick p) }
+pub fn picked(alloc: Global, head: &Head, pick: Pick) -> Result<Picks, ResolveError>
+    ensures ok { IfOk result (λ p. IsPicked head.now pick p) }
     ensures err { IfErr result (λ x. x ≡ NoMemory) }
 {
     let (select, width, constant, clocks) = pick.into_parts();
@@ -188,8 +188,8 @@ pub fn picked(alloc: Global, head: Head, pick: Pick) -> Result<Picks, ResolveErr
 }
 
 /// An element of an array.
-pub fn element(alloc: Global, head: Head, index: Form) -> Result<Picks, ResolveError>
-    ensures ok { IfOk result (λ p. IsElement head index p) }
+pub fn element(alloc: Global, head: &Head, index: Form) -> Result<Picks, ResolveError>
+    ensures ok { IfOk result (λ p. IsElement head.now index p) }
     ensures err { IfErr result (λ x. x ≡ NoMemory) }
 {
     let pick = bit_pick(alloc, index)?;
@@ -210,11 +210,11 @@ pub fn element(alloc: Global, head: Head, index: Form) -> Result<Picks, ResolveE
 /// Bits of an element.
 pub fn element_bits(
     alloc: Global,
-    head: Head,
+    head: &Head,
     index: Form,
     pick: Pick,
 ) -> Result<Picks, ResolveError>
-    ensures ok { IfOk result (λ p. IsElementBits head index pick p) }
+    ensures ok { IfOk result (λ p. IsElementBits head.now index pick p) }
     ensures err { IfErr result (λ x. x ≡ NoMemory) }
 {
     let (bits, width, bits_constant, more) = pick.into_parts();
@@ -237,15 +237,15 @@ pub fn element_bits(
 }
 
 /// A constant with its selects.
-pub fn const_form(alloc: Global, constant: Const, picks: Picks) -> Form
-    ensures { IsNamed (e.Const constant picks.selects) [] picks result }
+pub fn const_form(alloc: Global, constant: &Const, picks: Picks) -> Form
+    ensures { IsNamed (e.Const constant.now picks.selects) [] picks result }
 {
     let width = picks.width;
     let signed = picks.signed;
     let fixed = picks.constant;
     let (selects, clocks) = picks.into_parts();
     let operand = Operand {
-        expr: Held::new(FlatExpr::Const(constant, selects)),
+        expr: Held::new(FlatExpr::Const(*constant, selects)),
         width,
         signed,
         constant: fixed,

@@ -1,12 +1,13 @@
-ghost use Rattle.std.specs.Prelude.{◌≡◌, ◌∷◌, [], Bool, not, max, slice_get, true};
+ghost use Rattle.std.specs.Prelude.{◌≡◌, ◌&&◌, ◌||◌, not, [], Bool, slice_get, true};
 ghost use Rattle.std.specs.Option.{option_copied};
+ghost use Rattle.lv_bits.specs.Values.{keeps_width, is_apart};
 ghost use Rattle.lv_source.specs.Names.{Here};
 ghost use Rattle.lv_source.specs.Sites.{Walk};
 ghost use Rattle.lv_const.specs.Constants.{names_of};
 ghost use Rattle.lv_const.specs.Wherever.{AreDeclared};
 ghost use Rattle.lv_flat.specs.Signals.{Signals};
 ghost use Rattle.lv_resolve.specs.Places.{with_all};
-ghost use Rattle.lv_resolve.specs.Forms.{Sites, HasForm, FormAnswer, HasPair, PairAnswer, settled_sites, first_sites, pair_sites, pair_least, both_width};
+ghost use Rattle.lv_resolve.specs.Forms.{Sites, HasForm, FormAnswer, HasPair, PairAnswer, settled_sites, first_sites, first_least, pair_sites, pair_least, wide};
 
 use crate::close::close;
 use crate::error::ResolveError;
@@ -20,7 +21,7 @@ use std::alloc::Global;
 /// An operand that keeps its own width and sign: no divisor in it may be 0 there.
 pub fn settled(alloc: Global, all: &Consts, found: Form) -> Result<Form, ResolveError>
     ensures { (S : Signals) (here : Here) (sites : Sites) (w : Walk) (ok : Bool) → AreDeclared (names_of all.now) (with_all here) →
-        HasForm S here sites w ok found → FormAnswer S here (settled_sites sites w) w ok result }
+        HasForm S here sites (wide w) w ok found → FormAnswer S here (settled_sites sites w) 0 w ok result }
 {
     let (operand, notes) = found.into_parts();
     match close(
@@ -37,6 +38,25 @@ pub fn settled(alloc: Global, all: &Consts, found: Form) -> Result<Form, Resolve
     }
 }
 
+/// Whether it compares truth values.
+pub fn is_logical(op: Op) -> bool
+    ensures { result ≡ (is_apart op && not (keeps_width op)) }
+{
+    op.is_apart() && !op.keeps_width()
+}
+
+fn is_kept(op: Op) -> bool
+    ensures { result ≡ (keeps_width op || is_apart op) }
+{
+    op.keeps_width() || op.is_apart()
+}
+
+fn both_signed(a: bool, b: bool) -> bool
+    ensures { result ≡ (a && b) }
+{
+    a && b
+}
+
 /// The operands of a comparison are taken at the greater of their widths, and signed only where both are.
 pub fn compared(
     alloc: Global,
@@ -45,14 +65,14 @@ pub fn compared(
     found: Pair,
 ) -> Result<Pair, ResolveError>
     ensures { (S : Signals) (here : Here) (a b : Walk) (oka okb : Bool) → AreDeclared (names_of all.now) (with_all here) →
-        HasPair S here (first_sites op a b) (pair_least op a b) a b oka okb found → PairAnswer S here (pair_sites op a b) (pair_least op a b) a b oka okb result }
+        HasPair S here (first_sites op a b) (first_least op a b) a b oka okb found → PairAnswer S here (pair_sites op a b) (pair_least op a b) a b oka okb result }
 {
-    if op.keeps_width() || op.is_apart() {
+    if is_kept(op) {
         return Ok(found);
     }
     let (left, right, notes) = found.into_parts();
     let width = left.width.max(right.width);
-    let signed = left.signed && right.signed;
+    let signed = both_signed(left.signed, right.signed);
     match close(all, notes.divisors.as_slice(), width, signed) {
         Err(error) => Err(error),
         Ok(()) => Ok(Pair {

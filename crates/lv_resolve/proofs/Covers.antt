@@ -116,6 +116,7 @@ module _ (here : Here) where
     clean = λ W T. refl;
     clocks = λ W T. refl;
     divisors = no-divisors here.names least;
+    waiting = λ h. refl;
     none = λ W T h. refl;
     some = λ W T p h. h;
   }
@@ -126,6 +127,7 @@ module _ (here : Here) where
     clean = λ W T. ap (flat_map (flaws here)) (sym (e W T)) ∙ h.clean W T;
     clocks = λ W T. ap (flat_map clock_use) (sym (e W T)) ∙ (h.clocks W T ∙ a);
     divisors = subst (AreDivisors here.names m) b (wider here.names n m ds l h.divisors);
+    waiting = λ k. sym b ∙ h.waiting (omega (arith, l, k));
     none = λ W T k. ap (flat_map zero_divisor) (sym (e W T)) ∙ h.none W T (ap (flat_map (zeros_at here.names W T)) b ∙ k);
     some = λ W T p k. in-same _ _ p (ap (flat_map zero_divisor) (e W T)) (h.some W T p (in-same _ _ p (ap (flat_map (zeros_at here.names W T)) (sym b)) k));
   }
@@ -136,6 +138,7 @@ module _ (here : Here) where
     clean = λ W T. none-joined (flaws here) (s W T) (t W T) (a.clean W T) (b.clean W T);
     clocks = λ W T. flat_map-append clock_use (s W T) (t W T) ∙ two (λ (x y : List ℕ). x ++ y) _ _ _ _ (a.clocks W T) (b.clocks W T);
     divisors = both-divisors here.names n ds fs a.divisors b.divisors;
+    waiting = λ k. two (λ (x y : List Divisor). x ++ y) _ _ _ _ (a.waiting k) (b.waiting k);
     none = λ W T h. let k = sym (flat_map-append (zeros_at here.names W T) ds fs) ∙ h in
         none-joined zero_divisor (s W T) (t W T) (a.none W T (first-empty _ _ k)) (b.none W T (second-empty _ _ k));
     some = λ W T p h. elim (Contains-append_cases (flat_map (zeros_at here.names W T) ds) (flat_map (zeros_at here.names W T) fs) p
@@ -152,6 +155,7 @@ module _ (here : Here) where
     clean = λ W T. a.clean V U;
     clocks = λ W T. a.clocks V U;
     divisors = no-divisors here.names m;
+    waiting = λ k. refl;
     none = λ W T k. a.none V U h;
     some = λ W T p k. absurd (nowhere-in p k);
   }
@@ -163,6 +167,7 @@ module _ (here : Here) where
     clean = λ W T. both-empty (flaws here (site_of here.names y role None W T)) (flat_map (flaws here) (below_sites y role None W T)) (q W T).clean (a.clean W T);
     clocks = λ W T. ap (λ zs. zs ++ flat_map clock_use (below_sites y role None W T)) (q W T).clock ∙ a.clocks W T;
     divisors = a.divisors;
+    waiting = a.waiting;
     none = λ W T h. both-empty (zero_divisor (site_of here.names y role None W T)) (flat_map zero_divisor (below_sites y role None W T)) (q W T).zero (a.none W T h);
     some = λ W T p h. Contains-append_right (zero_divisor (site_of here.names y role None W T)) (flat_map zero_divisor (below_sites y role None W T)) p (a.some W T p h);
   }

@@ -41,7 +41,7 @@ use Rattle.lv_resolve.proofs.Steady.{path_of, constant-reads, site-paths}
 
 -- ---- from spots to sites
 
-spotted : (here : Here) (f : Spot → List ℕ) (ss : List Site) → flat_map f (spots here ss) ≡ flat_map (λ s. f (record { early = here.early; site = s })) ss
+pub spotted : (here : Here) (f : Spot → List ℕ) (ss : List Site) → flat_map f (spots here ss) ≡ flat_map (λ s. f (record { early = here.early; site = s })) ss
 spotted here f [] = refl
 spotted here f (s ∷ ss) = ap (λ ns. f (record { early = here.early; site = s }) ++ ns) (spotted here f ss)
 
@@ -85,6 +85,7 @@ module _ (here : Here) (e : Expr) where
             clean = λ W T. formed-clean here (fixed_sites w) f;
             clocks = λ W T. sym (spotted here (site_faults ClockUse) (fixed_sites w)) ∙ f.clock;
             divisors = no-divisors here.names 0;
+            waiting = λ k. refl;
             none = λ W T k. subst (λ ss. flat_map zero_divisor ss ≡ []) same-sites h.clean.divides.none;
             some = λ W T p k. absurd (nowhere-in p k);
           };
@@ -115,7 +116,7 @@ module _ (here : Here) (e : Expr) where
 
 -- ---- names
 
-readable : (z : Sort) → is_declared_sort z ≡ true → can_be_read z ≡ true
+pub readable : (z : Sort) → is_declared_sort z ≡ true → can_be_read z ≡ true
 readable Input h = refl
 readable Net h = refl
 readable Variable h = refl
@@ -144,7 +145,7 @@ unread (Index g) h k = refl
 unread Other h k = refl
 
 -- no entry: no constant
-none-constant : (o : Option Declared) → None ≡ early_or_none true o → is_constant_sort (known o).sort ≡ false
+pub none-constant : (o : Option Declared) → None ≡ early_or_none true o → is_constant_sort (known o).sort ≡ false
 none-constant None h = refl
 none-constant (Some d) h = elim (split (is_constant_sort d.sort)) [
   | inl k ↦ let q : None ≡ Some d = rw k at h in cc
@@ -182,7 +183,7 @@ none-early b o h = elim (split (is_early b o)) [
   | inr k ↦ k
 ]
 
-unread-none : (o : Option Declared) → is_declared_sort (known o).sort ≡ false → is_constant_sort (known o).sort ≡ false → is_unreadable o ≡ true
+pub unread-none : (o : Option Declared) → is_declared_sort (known o).sort ≡ false → is_constant_sort (known o).sort ≡ false → is_unreadable o ≡ true
 unread-none None h k = refl
 unread-none (Some d) h k = rw (unread d.sort h k) refl
 

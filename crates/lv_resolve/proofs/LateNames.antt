@@ -86,6 +86,14 @@ late-here f g es i x h e =
     let d : drop i es ≡ get_or es i x ∷ drop (i + 1) es = rw add-one (drop-cons es i x h) in
     ap (λ ys. first_late f (flat_map g ys)) (d ∙ ap (λ y. y ∷ drop (i + 1) es) e) ∙ late-both f (g x) (flat_map g (drop (i + 1) es))
 
+module _ {A : Type 0} (f : Path → Option ResolveError) (g : A → List Path) (es : List A) (i : ℕ) (x : A) (h : i < length es) (e : get_or es i x ≡ x)
+    (k : first_late f (flat_map g es) ≡ first_late f (flat_map g (drop i es))) where
+  pub late-found : (q : ResolveError) → Some q ≡ first_late f (g x) → Some q ≡ first_late f (flat_map g es)
+  late-found q m = sym (k ∙ (late-here f g es i x h e ∙ ap (λ z. or_else z (first_late f (flat_map g (drop (i + 1) es)))) (sym m)))
+
+  pub late-next : None ≡ first_late f (g x) → first_late f (flat_map g es) ≡ first_late f (flat_map g (drop (i + 1) es))
+  late-next m = k ∙ (late-here f g es i x h e ∙ ap (λ z. or_else z (first_late f (flat_map g (drop (i + 1) es)))) (sym m))
+
 pub ruleset late_rules = (
   paths-Lit,
   paths-Name,

@@ -1,6 +1,7 @@
 -- Concatenations, replications, divisions, choices and literals, from what is known of their operands.
 use Rattle.std.proofs.Common.{◌≡◌, ℕ, ◌+◌, ◌*◌, ◌≤◌, ◌<◌, max, Bool, true, false, not, ◌&&◌, ◌||◌, ◌==◌, if◌then◌else◌, List, [], ◌∷◌, ◌++◌, ap, ◌∙◌, sym, subst, refl, flat_map, map, length, take, drop, get_or, arith, inl, inr, ◌⊎◌, Ok, Err, Result, None, Some, Option}
-use Rattle.std.specs.Prelude.{IfOk, IfErr}
+use Rattle.std.specs.Prelude.{IfOk, IfErr, nat_lt, pos}
+use Rattle.lv_bits.specs.Values.{signed_of}
 use Rattle.std.specs.List.{Contains, list_all}
 use Rattle.std.proofs.lemmas.List.{take_more, map-append}
 use Rattle.std.proofs.lemmas.Grind.{flat_map-append}
@@ -18,7 +19,7 @@ use Rattle.lv_const.specs.Answers.{read_role, total_width}
 use Rattle.lv_const.proofs.Told.{width_in, both-empty}
 use Rattle.lv_const.proofs.Numbers.{split}
 use Rattle.lv_const.proofs.Owns.{site_of}
-use Rattle.lv_const.proofs.Leaves.{joins, shown-widths, wrong-or, not-false}
+use Rattle.lv_const.proofs.Leaves.{joins, count-positive, shown-widths, wrong-or, not-false}
 use Rattle.lv_const.proofs.Lists.{take-whole, parted}
 use Rattle.lv_scopes.specs.declared.number.Number.{Number}
 use Rattle.lv_flat.specs.declared.expr.FlatExpr.{FlatExpr}
@@ -130,6 +131,9 @@ module _ (S : Signals) (here : Here) (joined : Bool) where
 
 -- ---- divisions
 
+width-there : (n : ℕ) → is_width n ≡ true → n ≡ 0 → ⊥
+width-there n h k = let z : false ≡ true = ap is_width (sym k) ∙ h in cc
+
 zeros-last : (names : Names) (W : ℕ) (T : Bool) (ds : List Divisor) (d : Divisor) → flat_map (zeros_at names W T) (ds ++ d ∷ []) ≡
     flat_map (zeros_at names W T) ds ++ (zeros_at names W T d ++ [])
 zeros-last names W T ds d = flat_map-append (zeros_at names W T) ds (d ∷ [])
@@ -156,7 +160,7 @@ taken-zero false p q h = absurd (nowhere-in q h)
 -- the nodes of both operands and the division over them, with its divisor
 module _ (here : Here) (a b : Walk) (bx : Expr) (place : ℕ) (site : ℕ → Bool → Site) (e : walk here.names bx ≡ b) (p : place ≡ first_place b.shown)
     (c : b.shown.reading.constant ≡ true) (z : (W : ℕ) (T : Bool) → zero_divisor (site W T) ≡ zero_division a.shown b.shown W T)
-    (q : (W : ℕ) (T : Bool) → flaws here (site W T) ≡ []) (k : (W : ℕ) (T : Bool) → clock_use (site W T) ≡ []) where
+    (some : both_width a b ≡ 0 → ⊥) (q : (W : ℕ) (T : Bool) → flaws here (site W T) ≡ []) (k : (W : ℕ) (T : Bool) → clock_use (site W T) ≡ []) where
   abbrev divisor : Divisor
   divisor = record { expr = bx; place = place }
 
@@ -211,6 +215,7 @@ module _ (here : Here) (a b : Walk) (bx : Expr) (place : ℕ) (site : ℕ → Bo
       clean = λ W T. both-empty (flaws here (site W T)) (flat_map (flaws here) (both_sites a b W T)) (q W T) (h.clean W T);
       clocks = λ W T. ap (λ zs. zs ++ flat_map clock_use (both_sites a b W T)) (k W T) ∙ h.clocks W T;
       divisors = both-divisors here.names (both_width a b) ds (divisor ∷ []) h.divisors one-divisor;
+      waiting = λ m. absurd (some m);
       none = division-none;
       some = division-some;
     }
@@ -256,7 +261,7 @@ module _ (S : Signals) (here : Here) (joined : Bool) (a b : Walk) (oka okb : Boo
         right = record {
           operand = o;
           cover = covered-same here _ _ _ _ _ _ _ _ (λ W T. refl) (omega arith) (sym i.notes.clocks) (sym i.notes.divisors)
-              (covered-division here a b bx place (λ W T. site_of here.names (Expr-F.Div a b) (read_role joined) None W T) ex px (and-right _ _ c) (λ W T. refl)
+              (covered-division here a b bx place (λ W T. site_of here.names (Expr-F.Div a b) (read_role joined) None W T) ex px (and-right _ _ c) (λ W T. refl) (λ m. width-there (wide n) fits m)
               (λ W T. rw (c, fits) refl) (λ W T. refl) p.notes.clocks p.notes.divisors h.cover);
         };
         wrong = tt;
@@ -287,7 +292,7 @@ module _ (S : Signals) (here : Here) (joined : Bool) (a b : Walk) (oka okb : Boo
         right = record {
           operand = o;
           cover = covered-same here _ _ _ _ _ _ _ _ (λ W T. refl) (omega arith) (sym i.notes.clocks) (sym i.notes.divisors)
-              (covered-division here a b bx place (λ W T. site_of here.names (Expr-F.Rem a b) (read_role joined) None W T) ex px (and-right _ _ c) (λ W T. refl)
+              (covered-division here a b bx place (λ W T. site_of here.names (Expr-F.Rem a b) (read_role joined) None W T) ex px (and-right _ _ c) (λ W T. refl) (λ m. width-there (wide n) fits m)
               (λ W T. rw (c, fits) refl) (λ W T. refl) p.notes.clocks p.notes.divisors h.cover);
         };
         wrong = tt;
@@ -306,13 +311,13 @@ total-snoc : (ws : List Walk) (w : Walk) → total_width (ws ++ w ∷ []) ≡ to
 total-snoc [] w = omega arith
 total-snoc (v ∷ ws) w = omega (arith, total-snoc ws w)
 
-all-snoc : {A : Type 0} (f : A → Bool) (xs : List A) (x : A) → list_all f (xs ++ x ∷ []) ≡ list_all f xs && f x
-all-snoc f [] x = sym (and-true (f x))
-all-snoc f (y ∷ xs) x = ap (λ b. f y && b) (all-snoc f xs x) ∙ and-assoc (f y) (list_all f xs) (f x)
-
 and-assoc : (a b c : Bool) → a && (b && c) ≡ (a && b) && c
 and-assoc true b c = refl
 and-assoc false b c = refl
+
+all-snoc : {A : Type 0} (f : A → Bool) (xs : List A) (x : A) → list_all f (xs ++ x ∷ []) ≡ list_all f xs && f x
+all-snoc f [] x = sym (and-true (f x))
+all-snoc f (y ∷ xs) x = ap (λ b. f y && b) (all-snoc f xs x) ∙ and-assoc (f y) (list_all f xs) (f x)
 
 append-nil : {A : Type 0} (xs : List A) → xs ++ [] ≡ xs
 append-nil [] = refl
@@ -431,4 +436,96 @@ module _ (S : Signals) (here : Here) (joined : Bool) where
   cat-none ws ok y h = record {
     right = tt;
     wrong = node-none here (Expr-F.Cat ws) (read_role joined) (joined_all ws) y (λ W T. within-same _ _ (cat-sites ws W T)) h;
+  }
+
+-- ---- copies
+
+positive-order : (a b : Bool) → a && b ≡ b && a
+positive-order true true = refl
+positive-order true false = refl
+positive-order false true = refl
+positive-order false false = refl
+
+or-true : (b : Bool) → b || true ≡ true
+or-true true = refl
+or-true false = refl
+
+module _ (S : Signals) (here : Here) (joined : Bool) (n : Walk) (num : Number) (h : IsFixed here n num) where
+  is-positive : is_low num && nat_lt 0 num.word.value ≡ is_positive (number n.shown)
+  is-positive =
+      positive-order (is_low num) (nat_lt 0 num.word.value) ∙ (count-positive num.signed num.word.width num.word.value ∙
+      (ap (λ k. is_positive (if num.signed then signed_of num.word.width k else pos k)) h.value ∙
+      (ap (λ k. is_positive (if num.signed then signed_of k (own_value n.shown.reading.meaning nowhere) else pos (own_value n.shown.reading.meaning nowhere))) h.width ∙
+      ap (λ b. is_positive (if b then signed_of n.shown.reading.meaning.width (own_value n.shown.reading.meaning nowhere) else pos (own_value n.shown.reading.meaning nowhere))) h.signed)))
+
+  module _ (ws : List Walk) (ok : Bool) (p : Parts) (g : HasParts S here ws ok p) where
+    abbrev top : Walk
+    top = walk_step here.names (Expr-F.Rep n ws)
+
+    rep-wide : wide top ≡ num.word.value * p.total
+    rep-wide = two (λ (a b : ℕ). a * b) _ _ _ _ (sym h.value) (shown-widths ws ∙ sym g.width)
+
+    rep-sites : (W : ℕ) (T : Bool) → fixed_sites n ++ joined_all ws W T ≡ below_sites (Expr-F.Rep n ws) (read_role joined) None W T
+    rep-sites W T = refl
+
+    rep-right : (f : Form) → is_low num && nat_lt 0 num.word.value ≡ true → IsRepetition num.word.value p f → HasForm S here (read_sites joined top) (wide top) top ok f
+    rep-right f b i =
+        let y : FlatExpr = e.Rep num.word.value p.exprs in
+        let o : HasOperand S top ok f.operand =
+            has-operand S y top ok _ _ _ f.operand i.tree
+            (alike.alike-Rep S here.names num.word.value p.exprs n.shown.reading _ (record { value = sym h.value; constant = h.constant; reads = h.reads })
+            (g.same ∙ shown-readings S here joined ws))
+            (sym rep-wide) refl (g.constant ∙ (shown-constant S here joined ws ∙ sym (ap (λ k. k && list_all (λ r. r.constant) (map (λ r. r.reading) (map (λ w. w.shown) ws))) h.constant)))
+            (λ k m. good-by S y (FlatExpr-F.Rep num.word.value (map (judge S) p.exprs)) (judge-Rep S num.word.value p.exprs) m
+            (sym (judged-good S here joined p.exprs) ∙ g.good k)) in
+        let fits : is_width (wide top) ≡ true = operand-width S top ok f.operand o in
+        let positive : is_positive (number n.shown) ≡ true = sym is-positive ∙ b in
+        record {
+          operand = o;
+          cover = covered-same here _ _ _ _ _ _ _ _ (λ W T. refl) (omega arith) (sym i.notes.clocks) (sym i.notes.divisors)
+              (covered-node here (Expr-F.Rep n ws) (read_role joined) 0 p.notes.clocks p.notes.divisors
+              (λ W T. record { clean = rw (fits, positive) refl; clock = refl; zero = refl })
+              (covered-both here (λ W T. fixed_sites n) (joined_all ws) 0 [] p.notes.clocks [] p.notes.divisors h.cover g.cover));
+        }
+
+    rep-told : (place : ℕ) → place ≡ first_place top.shown → not (is_width (wide top)) || not (is_positive (number n.shown)) ≡ true →
+        HasNoForm here (read_sites joined top) (x.Range place)
+    rep-told place s k = record {
+      told = λ W T. told-range here (site_of here.names (Expr-F.Rep n ws) (read_role joined) None W T) _ place []
+          (ap (λ b. if b then first_place top.shown ∷ [] else []) k ∙ ap (λ m. m ∷ []) (sym s));
+    }
+
+    pub rep-answer : (place : ℕ) (r : Result Form ResolveError) → place ≡ first_place top.shown → IfOk r (IsCounted (copies_of num) p) →
+        IfErr r (IsUncounted (copies_of num) p.total place) → Answered S here joined (Expr-F.Rep n ws) ok r
+    rep-answer place (Ok f) s i m = elim (split (is_low num && nat_lt 0 num.word.value)) [
+      | inl b ↦ record { right = rep-right f b (subst (λ o. IsCounted o p f) (rw b refl) i); wrong = tt }
+      | inr b ↦ absurd (subst (λ o. IsCounted o p f) (rw b refl) i)
+    ]
+    rep-answer place (Err y) s i m = elim (split (is_low num && nat_lt 0 num.word.value)) [
+      | inl b ↦ let q : IsUncounted (Some num.word.value) p.total place y = subst (λ o. IsUncounted o p.total place y) (rw b refl) m in
+          record {
+            right = tt;
+            wrong = subst (HasNoForm here (read_sites joined top)) (sym q.1)
+                (rep-told place s (ap (λ b. not b || not (is_positive (number n.shown))) (ap is_width rep-wide ∙ q.0)));
+          }
+      | inr b ↦ let q : IsUncounted None p.total place y = subst (λ o. IsUncounted o p.total place y) (rw b refl) m in
+          record {
+            right = tt;
+            wrong = subst (HasNoForm here (read_sites joined top)) (sym q)
+                (rep-told place s (ap (λ b. not (is_width (wide top)) || not b) (sym is-positive ∙ b) ∙ or-true (not (is_width (wide top)))));
+          }
+    ]
+
+module _ (S : Signals) (here : Here) (joined : Bool) (n : Walk) (ws : List Walk) (ok : Bool) (y : ResolveError) where
+  pub rep-first : Told here (fixed_sites n) y → Answered S here joined (Expr-F.Rep n ws) ok (Err y)
+  rep-first h = record {
+    right = tt;
+    wrong = node-none here (Expr-F.Rep n ws) (read_role joined) (λ W T. fixed_sites n) y (λ W T. within-first (fixed_sites n) (joined_all ws W T))
+        (record { told = λ W T. h });
+  }
+
+  pub rep-second : HasNoForm here (joined_all ws) y → Answered S here joined (Expr-F.Rep n ws) ok (Err y)
+  rep-second h = record {
+    right = tt;
+    wrong = node-none here (Expr-F.Rep n ws) (read_role joined) (joined_all ws) y (λ W T. within-second (fixed_sites n) (joined_all ws W T)) h;
   }

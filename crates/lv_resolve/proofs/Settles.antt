@@ -17,15 +17,15 @@ use Rattle.lv_resolve.specs.Forms.{Sites, Told, Covered, AreDivisors, AreClosed,
 use Rattle.lv_resolve.proofs.Covers.{covered-same, covered-at}
 use Rattle.lv_resolve.proofs.Zeros.{zeroed-told}
 
-moved-divisors : (here : Here) (n m : ℕ) (ds es : List Divisor) → n ≡ m → ds ≡ es → AreDivisors here.names m es → AreDivisors here.names n ds
+pub moved-divisors : (here : Here) (n m : ℕ) (ds es : List Divisor) → n ≡ m → ds ≡ es → AreDivisors here.names m es → AreDivisors here.names n ds
 moved-divisors here n m ds es a b h = subst (λ z. AreDivisors here.names z ds) (sym a) (subst (AreDivisors here.names m) (sym b) h)
 
-moved-zeroed : (here : Here) (n m : ℕ) (s t : Bool) (ds es : List Divisor) (e : ResolveError) → n ≡ m → s ≡ t → ds ≡ es → IsZeroed here.names n s ds e →
+pub moved-zeroed : (here : Here) (n m : ℕ) (s t : Bool) (ds es : List Divisor) (e : ResolveError) → n ≡ m → s ≡ t → ds ≡ es → IsZeroed here.names n s ds e →
     IsZeroed here.names m t es e
 moved-zeroed here n m s t ds es e a b c h =
     subst (λ z. IsZeroed here.names m t z e) c (subst (λ z. IsZeroed here.names m z ds e) b (subst (λ z. IsZeroed here.names z s ds e) a h))
 
-moved-closed : (here : Here) (n m : ℕ) (s t : Bool) (ds es : List Divisor) → n ≡ m → s ≡ t → ds ≡ es → AreClosed here.names n s ds (Ok tt) →
+pub moved-closed : (here : Here) (n m : ℕ) (s t : Bool) (ds es : List Divisor) → n ≡ m → s ≡ t → ds ≡ es → AreClosed here.names n s ds (Ok tt) →
     AreClosed here.names m t es (Ok tt)
 moved-closed here n m s t ds es a b c h =
     subst (λ z. AreClosed here.names m t z (Ok tt)) c (subst (λ z. AreClosed here.names m z ds (Ok tt)) b (subst (λ z. AreClosed here.names z s ds (Ok tt)) a h))
@@ -86,13 +86,19 @@ kept-least op a b h = elim (split (keeps_width op)) [
 either-false : (op : Op) → keeps_width op ≡ false → is_apart op ≡ false → keeps_width op || is_apart op ≡ false
 either-false op k j = rw (k, j) refl
 
-pub either-first : (a b : Bool) → a ≡ true → a || b ≡ true
-either-first true b h = refl
-either-first false b h = cc
+or-first : (a b : Bool) → a || b ≡ false → a ≡ false
+or-first true b h = h
+or-first false b h = refl
 
-pub either-second : (a b : Bool) → b ≡ true → a || b ≡ true
-either-second true b h = refl
-either-second false b h = h
+or-second : (a b : Bool) → a || b ≡ false → b ≡ false
+or-second true b h = cc
+or-second false b h = h
+
+pub neither-first : (op : Op) → keeps_width op || is_apart op ≡ false → keeps_width op ≡ false
+neither-first op h = or-first (keeps_width op) (is_apart op) h
+
+pub neither-second : (op : Op) → keeps_width op || is_apart op ≡ false → is_apart op ≡ false
+neither-second op h = or-second (keeps_width op) (is_apart op) h
 
 module _ (S : Signals) (here : Here) (op : Op) (a b : Walk) (oka okb : Bool) (f : Pair) (h : HasPair S here (first_sites op a b) (first_least op a b) a b oka okb f) where
   pub compared-kept : keeps_width op || is_apart op ≡ true → PairAnswer S here (pair_sites op a b) (pair_least op a b) a b oka okb (Ok f)

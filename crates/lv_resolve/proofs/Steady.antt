@@ -203,10 +203,10 @@ module _ (names : Names) where
   kept-rep n ws o ps g h = record {
     reads = λ z. ap (λ zs. zs ++ flat_map (λ r. r.reads) (map (λ r. r.reading) (map (λ w. w.shown) ws))) (g.reads (and-left n.shown.reading.constant _ z)) ∙
         h.reads (and-right n.shown.reading.constant _ z);
-    steady = λ z. node names no_constant (Expr-F.Rep n ws) [] [] (λ role fixed W T. refl) (λ role fixed W T. joined no_constant _ _ [] []
+    steady = λ z. node names no_constant (Expr-F.Rep n ws) [] [] (λ role fixed W T. refl) (λ role fixed W T. joined no_constant (fixed_sites n) (flat_map (own_sites Joined fixed) ws) [] []
         (own no_constant n [] (g.steady (and-left n.shown.reading.constant _ z)) Value (Some (first_place n.shown)))
         (h.steady (and-right n.shown.reading.constant _ z) Joined fixed));
-    paths = node names path_of (Expr-F.Rep n ws) [] (o ++ ps) (λ role fixed W T. refl) (λ role fixed W T. joined path_of _ _ o ps
+    paths = node names path_of (Expr-F.Rep n ws) [] (o ++ ps) (λ role fixed W T. refl) (λ role fixed W T. joined path_of (fixed_sites n) (flat_map (own_sites Joined fixed) ws) o ps
         (own path_of n o g.paths Value (Some (first_place n.shown))) (h.paths Joined fixed));
   }
 

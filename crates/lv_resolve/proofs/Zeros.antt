@@ -3,6 +3,7 @@ use Rattle.std.proofs.Common.{◌≡◌, ℕ, zero, suc, ◌+◌, ◌≤◌, ◌
 use Rattle.std.specs.List.{Contains}
 use Rattle.std.proofs.lemmas.Grind.{flat_map-append}
 use Rattle.std.proofs.lemmas.List.{take_more}
+use Rattle.std.proofs.lemmas.Bool.Decides.{nat_tests}
 use Rattle.std.proofs.lemmas.List.Elements.{Contains-append_left, Contains-append_right, Contains-append_cases}
 use Rattle.lv_bits.specs.Words.{Bits}
 use Rattle.lv_ast.specs.declared.expr.Path.{Path}
@@ -112,9 +113,14 @@ module _ (early : Path → Bool) (sites : List Site) where
 
 -- ---- a divisor
 
+is-none : (n : ℕ) → (n == 0) ≡ true → n ≡ 0
+is-none n h = grind (arith, nat_tests)
+
 not-zero : (n : ℕ) → (n ≡ 0 → ⊥) → (n == 0) ≡ false
-not-zero zero h = absurd (h refl)
-not-zero (suc n) h = refl
+not-zero n h = elim (split (n == 0)) [
+  | inl k ↦ absurd (h (is-none n k))
+  | inr k ↦ k
+]
 
 pub width-of : (here : Here) (a b c : Expr) (own W V : ℕ) → a ≡ c → b ≡ c → own ≡ own_width here.names a → V ≡ max own W → V ≡ max (own_width here.names b) W
 width-of here a b c own W V h k m n = n ∙ ap (λ i. max i W) (m ∙ ap (own_width here.names) (h ∙ sym k))
@@ -182,8 +188,9 @@ module _ (here : Here) (W : ℕ) (T : Bool) (d : Divisor) where
       let a : V ≡ W = reached z V e h m in
       let b : ((walk here.names d.expr).shown.reading.meaning.value W T nowhere == 0) ≡ false = ap (λ n. n == 0) (sym (value-there z V word e a v)) ∙ k in
       let c : flat_map zero_divisor inside ≡ [] = subst (λ n. flat_map zero_divisor ((walk here.names d.expr).sites Value None n T) ≡ []) a
-          (subst (λ u. flat_map zero_divisor ((walk here.names u).sites Value None V T) ≡ []) e (v.divides None).none) in record {
-        right = ap (λ zs. zs ++ []) (rw b c);
+          (subst (λ u. flat_map zero_divisor ((walk here.names u).sites Value None V T) ≡ []) e (v.divides None).none) in
+      let m : zeros_at here.names W T d ≡ [] = rw b c in record {
+        right = ap (λ zs. zs ++ []) m;
         wrong = tt;
       }
 

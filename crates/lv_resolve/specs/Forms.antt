@@ -112,6 +112,7 @@ pub record Covered (here : Here) (sites : Sites) (least : ℕ) (cs : List ℕ) (
   pub clean : (W : ℕ) (T : Bool) → flat_map (flaws here) (sites W T) ≡ []
   pub clocks : (W : ℕ) (T : Bool) → flat_map clock_use (sites W T) ≡ cs
   pub divisors : AreDivisors here.names least ds
+  pub waiting : least ≡ 0 → ds ≡ []
   pub none : (W : ℕ) (T : Bool) → flat_map (zeros_at here.names W T) ds ≡ [] → flat_map zero_divisor (sites W T) ≡ []
   pub some : (W : ℕ) (T : Bool) (p : ℕ) → Contains (flat_map (zeros_at here.names W T) ds) p → Contains (flat_map zero_divisor (sites W T)) p
 

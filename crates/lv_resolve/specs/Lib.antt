@@ -3,3 +3,4 @@ pub mod Joins
 pub mod Late
 pub mod Picks
 pub mod Places
+pub mod Resolved

@@ -29,7 +29,6 @@ use std::alloc::Global;
 
 /// The flat tree of an expression that is read, or joined by a concatenation.
 #[cycle(forms)]
-#[tactic(none)]
 pub fn form<B: Bindings>(
     alloc: Global,
     place: &Place<B>,
@@ -97,7 +96,6 @@ pub fn form<B: Bindings>(
 
 /// An operand: what reaches the node reaches it, or it keeps its own width and sign (`full`).
 #[cycle(forms)]
-#[tactic(none)]
 fn operand<B: Bindings>(
     alloc: Global,
     place: &Place<B>,
@@ -121,7 +119,6 @@ fn operand<B: Bindings>(
 
 /// An operand of a concatenation.
 #[cycle(forms)]
-#[tactic(none)]
 fn member<B: Bindings>(
     alloc: Global,
     place: &Place<B>,
@@ -138,7 +135,6 @@ fn member<B: Bindings>(
 
 /// Two operands that what reaches the node reaches.
 #[cycle(forms)]
-#[tactic(none)]
 fn both<B: Bindings>(
     alloc: Global,
     place: &Place<B>,
@@ -160,7 +156,6 @@ fn both<B: Bindings>(
 
 /// The operands of a binary operator.
 #[cycle(forms)]
-#[tactic(none)]
 fn operands<B: Bindings>(
     alloc: Global,
     place: &Place<B>,
@@ -186,7 +181,6 @@ fn operands<B: Bindings>(
 
 /// The operands of a concatenation, each at its own width and sign.
 #[cycle(forms)]
-#[tactic(none)]
 fn members<B: Bindings>(
     alloc: Global,
     place: &Place<B>,
@@ -210,7 +204,6 @@ fn members<B: Bindings>(
 
 /// A name with its selects.
 #[cycle(forms)]
-#[tactic(none)]
 fn name<B: Bindings>(
     alloc: Global,
     place: &Place<B>,
@@ -247,7 +240,6 @@ fn name<B: Bindings>(
 
 /// The selects of a name that is declared so.
 #[cycle(forms)]
-#[tactic(none)]
 fn picks<B: Bindings>(
     alloc: Global,
     place: &Place<B>,
@@ -276,7 +268,6 @@ fn picks<B: Bindings>(
 
 /// Those of an array.
 #[cycle(forms)]
-#[tactic(none)]
 fn array_picks<B: Bindings>(
     alloc: Global,
     place: &Place<B>,
@@ -300,7 +291,6 @@ fn array_picks<B: Bindings>(
 
 /// Those of an array behind that of an element.
 #[cycle(forms)]
-#[tactic(none)]
 fn indexed<B: Bindings>(
     alloc: Global,
     place: &Place<B>,
@@ -334,7 +324,6 @@ fn indexed<B: Bindings>(
 
 /// A select of bits.
 #[cycle(forms)]
-#[tactic(none)]
 fn pick<B: Bindings>(
     alloc: Global,
     place: &Place<B>,

@@ -13,7 +13,11 @@ mod naming;
 mod operand;
 mod picks;
 mod place;
+mod resolve;
+mod resolved;
 mod settle;
 
 pub use error::ResolveError;
 pub use place::{Bindings, Place};
+pub use resolve::resolve_expr;
+pub use resolved::Resolved;

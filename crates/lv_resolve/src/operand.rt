@@ -37,4 +37,16 @@ impl Operand {
         } = self;
         expr.into_inner()
     }
+
+    pub fn into_held(self) -> Held<FlatExpr>
+        ensures { result ≡ self.expr }
+    {
+        let Operand {
+            expr,
+            width: _,
+            signed: _,
+            constant: _,
+        } = self;
+        expr
+    }
 }

@@ -1,5 +1,5 @@
 -- What each arm of the functions over a tree has to show.
-use Rattle.std.proofs.Common.{◌≡◌, ℕ, ◌+◌, ◌*◌, ◌≤◌, ◌<◌, Bool, true, false, not, ◌&&◌, List, [], ◌∷◌, ap, ◌∙◌, sym, subst, refl, map, length, get_or, take, arith, Ok, Err, Result, None, Some, Option}
+use Rattle.std.proofs.Common.{◌≡◌, ℕ, ◌+◌, ◌*◌, ◌≤◌, ◌<◌, Bool, true, false, not, ◌&&◌, ◌||◌, if◌then◌else◌, List, [], ◌∷◌, ◌++◌, ap, ◌∙◌, sym, subst, refl, map, length, get_or, take, arith, Ok, Err, Result, None, Some, Option}
 use Rattle.std.specs.Prelude.{IfOk, IfErr}
 use Rattle.std.specs.List.{list_all}
 use Rattle.lv_bits.specs.declared.op.Op.{Op}
@@ -12,7 +12,7 @@ use Rattle.lv_ast.specs.declared.expr.Expr.TheOpen.{Expr-F, Select-F}
 use Rattle.lv_ast.specs.declared.expr.Select.{Select}
 use Rattle.lv_ast.specs.declared.expr.Select.TheVariants as select
 use Rattle.lv_source.specs.Names.{Names, Here, Declared}
-use Rattle.lv_source.specs.Sites.{Walk, WalkStep, walk, walk_select, walk_step, first_place, fixed_sites, first_of}
+use Rattle.lv_source.specs.Sites.{Value, Walk, WalkStep, walk, walk_select, walk_step, first_place, fixed_sites, first_of}
 use Rattle.lv_const.proofs.Walks.{walk-Lit, walk-Name, walk-Un, walk-Bin, walk-Div, walk-Rem, walk-Cond, walk-Cat, walk-Rep, walk-Cast, select-Bit, select-Part, select-Up, select-Down}
 use Rattle.lv_const.proofs.SamePlaces.{same-first}
 use Rattle.lv_scopes.specs.declared.number.Number.{Number}
@@ -23,11 +23,12 @@ use Rattle.lv_resolve.specs.declared.error.ResolveError.TheVariants as x
 use Rattle.lv_resolve.specs.declared.form.Form.{Form}
 use Rattle.lv_resolve.specs.declared.form.Pair.{Pair}
 use Rattle.lv_resolve.specs.declared.form.Parts.{Parts}
-use Rattle.lv_resolve.specs.Forms.{Sites, Told, HasForm, HasNoForm, FormAnswer, HasPair, PairAnswer, HasParts, PartsAnswer, IsFixed, FixedAnswer, NameAnswer, read_sites, operand_sites, operand_least, member_sites, settled_sites, wide, both_sites, both_width, first_sites, first_least, pair_sites, pair_least, joined_all, has_operands, has_select_operands}
+use Rattle.lv_resolve.specs.Forms.{Sites, Told, HasForm, HasNoForm, FormAnswer, HasPair, PairAnswer, HasParts, PartsAnswer, IsFixed, FixedAnswer, NameAnswer, read_sites, operand_sites, operand_least, member_sites, settled_sites, wide, both_sites, both_width, both_signed, first_sites, first_least, pair_sites, pair_least, joined_all, has_operands, has_select_operands}
 use Rattle.lv_resolve.specs.Joins.{IsUnary, IsBinary, IsDivision, IsNoDivision, IsChoice, IsCast, IsPair, IsConcatenation, IsTooWide, IsCounted, IsUncounted, IsLiteral, IsNoLiteral}
 use Rattle.lv_resolve.specs.Picks.{copies_of}
 use Rattle.lv_resolve.proofs.Nodes as nodes
-use Rattle.lv_resolve.proofs.Nodes.{Answered}
+use Rattle.lv_resolve.proofs.Nodes.{Answered, none-within}
+use Rattle.lv_resolve.proofs.Covers.{within-first, within-second, told-within}
 use Rattle.lv_resolve.proofs.PartLaws as parts
 use Rattle.lv_resolve.proofs.OperandLaws.{ok-Lit, ok-Name, ok-Un, ok-Bin, ok-Div, ok-Rem, ok-Cond, ok-Cat, ok-Rep, ok-Cast}
 
@@ -195,3 +196,77 @@ module _ (S : Signals) (here : Here) (z : Expr) where
   pub member-none : (q : ResolveError) → HasNoForm here (read_sites true (walk here.names z)) q →
       FormAnswer S here (member_sites (walk here.names z)) 0 (walk here.names z) (has_operands z) (Err q)
   member-none q h = record { right = tt; wrong = record { told = λ W T. h.told _ _ } }
+
+-- ---- pairs
+
+-- the same with the tests as variables
+first-by : (here : Here) (k j : Bool) (u v : Walk) (y : ResolveError) → HasNoForm here (operand_sites (j && not k) u) y →
+    HasNoForm here (λ W T. if k || j then operand_sites (j && not k) u W T ++ operand_sites j v W T else both_sites u v (both_width u v) (both_signed u v)) y
+first-by here true true u v y h = none-within here _ _ y (λ W T. within-first (operand_sites false u W T) (operand_sites true v W T)) h
+first-by here true false u v y h = none-within here _ _ y (λ W T. within-first (operand_sites false u W T) (operand_sites false v W T)) h
+first-by here false true u v y h = none-within here _ _ y (λ W T. within-first (operand_sites true u W T) (operand_sites true v W T)) h
+first-by here false false u v y h = record {
+  told = λ W T. told-within here _ _ y (within-first (u.sites Value None (both_width u v) (both_signed u v)) (v.sites Value None (both_width u v) (both_signed u v)))
+      (h.told (both_width u v) (both_signed u v));
+}
+
+second-by : (here : Here) (k j : Bool) (u v : Walk) (y : ResolveError) → HasNoForm here (operand_sites j v) y →
+    HasNoForm here (λ W T. if k || j then operand_sites (j && not k) u W T ++ operand_sites j v W T else both_sites u v (both_width u v) (both_signed u v)) y
+second-by here true true u v y h = none-within here _ _ y (λ W T. within-second (operand_sites false u W T) (operand_sites true v W T)) h
+second-by here true false u v y h = none-within here _ _ y (λ W T. within-second (operand_sites false u W T) (operand_sites false v W T)) h
+second-by here false true u v y h = none-within here _ _ y (λ W T. within-second (operand_sites true u W T) (operand_sites true v W T)) h
+second-by here false false u v y h = record {
+  told = λ W T. told-within here _ _ y (within-second (u.sites Value None (both_width u v) (both_signed u v)) (v.sites Value None (both_width u v) (both_signed u v)))
+      (h.told (both_width u v) (both_signed u v));
+}
+
+module _ (S : Signals) (here : Here) (a b : Expr) where
+  abbrev pub Both : Result Pair ResolveError → Type 0
+  Both r = PairAnswer S here (both_sites (walk here.names a) (walk here.names b)) (both_width (walk here.names a) (walk here.names b)) (walk here.names a)
+      (walk here.names b) (has_operands a) (has_operands b) r
+
+  pub both-answer : (f g : Form) (r : Result Pair ResolveError) → HasForm S here (operand_sites false (walk here.names a)) (wide (walk here.names a)) (walk here.names a) (has_operands a) f →
+      HasForm S here (operand_sites false (walk here.names b)) (wide (walk here.names b)) (walk here.names b) (has_operands b) g → IfOk r (IsPair f g) →
+      IfErr r (λ y. y ≡ x.NoMemory) → Both r
+  both-answer f g r h k i m = nodes.pair-answer S here (operand_sites false (walk here.names a)) (operand_sites false (walk here.names b)) (wide (walk here.names a))
+      (wide (walk here.names b)) (both_width (walk here.names a) (walk here.names b)) (walk here.names a) (walk here.names b) (has_operands a) (has_operands b) f g r
+      (omega arith) (omega arith) h k i m
+
+  pub both-first : (y : ResolveError) → HasNoForm here (operand_sites false (walk here.names a)) y → Both (Err y)
+  both-first y h = nodes.pair-first S here (operand_sites false (walk here.names a)) (operand_sites false (walk here.names b)) _ (walk here.names a) (walk here.names b) _ _ y h
+
+  pub both-second : (y : ResolveError) → HasNoForm here (operand_sites false (walk here.names b)) y → Both (Err y)
+  both-second y h = nodes.pair-second S here (operand_sites false (walk here.names a)) (operand_sites false (walk here.names b)) _ (walk here.names a) (walk here.names b) _ _ y h
+
+  module _ (op : Op) (p q : Bool) (e : p ≡ (is_apart op && not (keeps_width op))) (f : q ≡ is_apart op) where
+    abbrev u : Walk
+    u = walk here.names a
+
+    abbrev v : Walk
+    v = walk here.names b
+
+    pub first-answer : (fa fb : Form) (r : Result Pair ResolveError) → HasForm S here (operand_sites p u) (operand_least p u) u (has_operands a) fa →
+        HasForm S here (operand_sites q v) (operand_least q v) v (has_operands b) fb → IfOk r (IsPair fa fb) → IfErr r (λ y. y ≡ x.NoMemory) →
+        PairAnswer S here (first_sites op u v) (first_least op u v) u v (has_operands a) (has_operands b) r
+    first-answer fa fb r h k i m = nodes.pair-answer S here (operand_sites (is_apart op && not (keeps_width op)) u) (operand_sites (is_apart op) v)
+        (operand_least (is_apart op && not (keeps_width op)) u) (operand_least (is_apart op) v) (first_least op u v) u v (has_operands a) (has_operands b) fa fb r
+        (nodes.left-least S here op u v) (nodes.right-least S here op u v)
+        (subst (λ z. HasForm S here (operand_sites z u) (operand_least z u) u (has_operands a) fa) e h)
+        (subst (λ z. HasForm S here (operand_sites z v) (operand_least z v) v (has_operands b) fb) f k) i m
+
+    pub first-left : (y : ResolveError) → HasNoForm here (operand_sites p u) y → PairAnswer S here (pair_sites op u v) (pair_least op u v) u v (has_operands a) (has_operands b) (Err y)
+    first-left y h = record { right = tt; wrong = first-by here (keeps_width op) (is_apart op) u v y (subst (λ z. HasNoForm here (operand_sites z u) y) e h) }
+
+    pub first-right : (y : ResolveError) → HasNoForm here (operand_sites q v) y → PairAnswer S here (pair_sites op u v) (pair_least op u v) u v (has_operands a) (has_operands b) (Err y)
+    first-right y h = record { right = tt; wrong = second-by here (keeps_width op) (is_apart op) u v y (subst (λ z. HasNoForm here (operand_sites z v) y) f h) }
+
+    pub first-memory : (y : ResolveError) → y ≡ x.NoMemory → PairAnswer S here (pair_sites op u v) (pair_least op u v) u v (has_operands a) (has_operands b) (Err y)
+    first-memory y h = record { right = tt; wrong = nodes.memory-none here (pair_sites op u v) y h }
+
+-- ---- members
+
+module _ (S : Signals) (here : Here) where
+  pub member-settled : (z : Expr) (r : Result Form ResolveError) →
+      FormAnswer S here (settled_sites (read_sites true (walk here.names z)) (walk here.names z)) 0 (walk here.names z) (has_operands z) r →
+      FormAnswer S here (member_sites (walk here.names z)) 0 (walk here.names z) (has_operands z) r
+  member-settled z r h = h

@@ -16,8 +16,8 @@ value_or (Some n) = n
 
 pub bound-value : (n : Number) (k : ℕ) → bound_of n ≡ Some k → k ≡ n.word.value
 bound-value n k h = elim (split (is_low n && nat_le n.word.value 65535)) [
-  | inl e ↦ sym (ap value_or (sym (rw e refl) ∙ h))
-  | inr e ↦ let q : None ≡ Some k = sym (rw e refl) ∙ h in cc
+  | inl e ↦ let m : bound_of n ≡ Some n.word.value = rw e refl in sym (ap value_or (sym m ∙ h))
+  | inr e ↦ let m : bound_of n ≡ None = rw e refl in let q : None ≡ Some k = sym m ∙ h in cc
 ]
 
 bound-some : (n : Number) (k : ℕ) → bound_of n ≡ Some k → bound_of n ≡ Some n.word.value
@@ -26,7 +26,7 @@ bound-some n k h = h ∙ ap Some (bound-value n k h)
 le-true : (a b : ℕ) → a ≤ b → nat_le a b ≡ true
 le-true a b h = grind (arith, nat_tests)
 
-and-both : (a b : Bool) → a ≡ true → b ≡ true → a && b ≡ true
+pub and-both : (a b : Bool) → a ≡ true → b ≡ true → a && b ≡ true
 and-both true b h k = k
 and-both false b h k = cc
 

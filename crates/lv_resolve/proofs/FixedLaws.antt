@@ -108,11 +108,11 @@ module _ (here : Here) (e : Expr) where
   of-zero : (p : ℕ) → IsFault here (spots here (fixed_sites w)) (y.ZeroDivisor p) → Contains (flat_map zero_divisor (fixed_sites w)) p
   of-zero p (refused.zero h) = in-same _ _ p (spotted here (site_faults kind.ZeroDivisor) (fixed_sites w)) h
 
-  pub fixed-range : (p : ℕ) → const.Told here.early (expr_sites true here.names 0 e) (y.Range p) → FixedAnswer here w (Err (x.Range p))
-  fixed-range p h = record { right = tt; wrong = record { found = of-range p (fault (y.Range p) h) } }
+  pub fixed-range : (p : ℕ) (q : ConstError) → q ≡ y.Range p → const.Told here.early (expr_sites true here.names 0 e) q → FixedAnswer here w (Err (x.Range p))
+  fixed-range p q k t = let h = subst (const.Told here.early (expr_sites true here.names 0 e)) k t in record { right = tt; wrong = record { found = of-range p (fault (y.Range p) h) } }
 
-  pub fixed-zero : (p : ℕ) → const.Told here.early (expr_sites true here.names 0 e) (y.ZeroDivisor p) → FixedAnswer here w (Err (x.ZeroDivisor p))
-  fixed-zero p h = record { right = tt; wrong = record { found = of-zero p (fault (y.ZeroDivisor p) h) } }
+  pub fixed-zero : (p : ℕ) (q : ConstError) → q ≡ y.ZeroDivisor p → const.Told here.early (expr_sites true here.names 0 e) q → FixedAnswer here w (Err (x.ZeroDivisor p))
+  fixed-zero p q k t = let h = subst (const.Told here.early (expr_sites true here.names 0 e)) k t in record { right = tt; wrong = record { found = of-zero p (fault (y.ZeroDivisor p) h) } }
 
 -- ---- names
 
@@ -347,11 +347,12 @@ module _ (S : Signals) (find : Path → Option ℕ) (all early : List Entry) (he
           | Expr-F.Cast signed a ↦ λ k. refl
         ] h
 
-    pub fixed-never : (p : ℕ) (r : ResolveError) → None ≡ first_late (late_name find all early) (paths_in e) →
-        const.Told here.early (expr_sites true here.names 0 e) (y.NoValue p) → FixedAnswer here (walk here.names e) (Err r)
-    fixed-never p r h t =
+    pub fixed-never : (p : ℕ) (q : ConstError) (r : ResolveError) → None ≡ first_late (late_name find all early) (paths_in e) → q ≡ y.NoValue p →
+        const.Told here.early (expr_sites true here.names 0 e) q → FixedAnswer here (walk here.names e) (Err r)
+    fixed-never p q r h k u =
+        let t = subst (const.Told here.early (expr_sites true here.names 0 e)) k u in
         let g : Found (all_faults here.early) sites (y.NoValue p) = found (all_faults here.early) sites (y.NoValue p) (told-sites here e (y.NoValue p) t).found in
         let z : Stands here.names g.one = All-contains (Stands here.names) sites g.one all-stand g.among in
-        let n : no_value here.early g.one ≡ [] = valued g.one [] z.named (λ q c. early-is q (names_of early q) (find q) (names_of all q) refl
-            (none-late (late_name find all early) (paths_in e) q h (in-same _ _ q path-sites (gathered path_of sites g.one q g.among c)))) in
+        let n : no_value here.early g.one ≡ [] = valued g.one [] z.named (λ m c. early-is m (names_of early m) (find m) (names_of all m) refl
+            (none-late (late_name find all early) (paths_in e) m h (in-same _ _ m path-sites (gathered path_of sites g.one m g.among c)))) in
         absurd (no-name here.early g.one p n g.holds)

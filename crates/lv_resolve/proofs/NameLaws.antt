@@ -81,10 +81,10 @@ module _ (S : Signals) (here : Here) (d : Declared) (h : Head) (hd : IsHead d h)
     none-select : is_select_fault d [] ≡ false
     none-select = rw (na, zero-le) refl
 
-    none-width : length (all_bits (width_of d)) ≡ length (bits_of d (bit_selects d.array []) nowhere)
+    none-width : length (all_bits (width_of d)) ≡ length (bits_of d (bit_selects d.array (map meant (chosen_of []))) nowhere)
     none-width = rw na refl
 
-    none-signed : d.signed ≡ (is_nil (bit_selects d.array []) && d.signed)
+    none-signed : d.signed ≡ (is_nil (bit_selects d.array (map meant (chosen_of []))) && d.signed)
     none-signed = rw na refl
 
     pub whole-answer : (p : Picks) → IsWhole h p → PicksAnswer S here d true [] at (Ok p)

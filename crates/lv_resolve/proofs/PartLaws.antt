@@ -458,6 +458,12 @@ module _ (S : Signals) (here : Here) (joined : Bool) (n : Walk) (num : Number) (
       (ap (λ k. is_positive (if num.signed then signed_of k (own_value n.shown.reading.meaning nowhere) else pos (own_value n.shown.reading.meaning nowhere))) h.width ∙
       ap (λ b. is_positive (if b then signed_of n.shown.reading.meaning.width (own_value n.shown.reading.meaning nowhere) else pos (own_value n.shown.reading.meaning nowhere))) h.signed)))
 
+  some-copies : is_low num && nat_lt 0 num.word.value ≡ true → copies_of num ≡ Some num.word.value
+  some-copies b = rw b refl
+
+  none-copies : is_low num && nat_lt 0 num.word.value ≡ false → copies_of num ≡ None
+  none-copies b = rw b refl
+
   module _ (ws : List Walk) (ok : Bool) (p : Parts) (g : HasParts S here ws ok p) where
     abbrev top : Walk
     top = walk_step here.names (Expr-F.Rep n ws)
@@ -498,17 +504,17 @@ module _ (S : Signals) (here : Here) (joined : Bool) (n : Walk) (num : Number) (
     pub rep-answer : (place : ℕ) (r : Result Form ResolveError) → place ≡ first_place top.shown → IfOk r (IsCounted (copies_of num) p) →
         IfErr r (IsUncounted (copies_of num) p.total place) → Answered S here joined (Expr-F.Rep n ws) ok r
     rep-answer place (Ok f) s i m = elim (split (is_low num && nat_lt 0 num.word.value)) [
-      | inl b ↦ record { right = rep-right f b (subst (λ o. IsCounted o p f) (rw b refl) i); wrong = tt }
-      | inr b ↦ absurd (subst (λ o. IsCounted o p f) (rw b refl) i)
+      | inl b ↦ record { right = rep-right f b (subst (λ o. IsCounted o p f) (some-copies b) i); wrong = tt }
+      | inr b ↦ absurd (subst (λ o. IsCounted o p f) (none-copies b) i)
     ]
     rep-answer place (Err y) s i m = elim (split (is_low num && nat_lt 0 num.word.value)) [
-      | inl b ↦ let q : IsUncounted (Some num.word.value) p.total place y = subst (λ o. IsUncounted o p.total place y) (rw b refl) m in
+      | inl b ↦ let q : IsUncounted (Some num.word.value) p.total place y = subst (λ o. IsUncounted o p.total place y) (some-copies b) m in
           record {
             right = tt;
             wrong = subst (HasNoForm here (read_sites joined top)) (sym q.1)
                 (rep-told place s (ap (λ b. not b || not (is_positive (number n.shown))) (ap is_width rep-wide ∙ q.0)));
           }
-      | inr b ↦ let q : IsUncounted None p.total place y = subst (λ o. IsUncounted o p.total place y) (rw b refl) m in
+      | inr b ↦ let q : IsUncounted None p.total place y = subst (λ o. IsUncounted o p.total place y) (none-copies b) m in
           record {
             right = tt;
             wrong = subst (HasNoForm here (read_sites joined top)) (sym q)

@@ -87,7 +87,7 @@ and-true-left false b h = cc
 one-le : (n : ℕ) → 1 ≤ n → nat_le 1 n ≡ true
 one-le n h = grind (arith, nat_tests)
 
-and-one : (a : Bool) → a ≡ a && true
+pub and-one : (a : Bool) → a ≡ a && true
 and-one true = refl
 and-one false = refl
 
@@ -131,7 +131,7 @@ module _ (here : Here) (n : Walk) (num : Number) (h : IsFixed here n num) where
 
 -- ---- one select
 
-append-nil : {A : Type 0} (xs : List A) → xs ++ [] ≡ xs
+pub append-nil : {A : Type 0} (xs : List A) → xs ++ [] ≡ xs
 append-nil [] = refl
 append-nil (x ∷ xs) = ap (λ ys. x ∷ ys) (append-nil xs)
 

@@ -228,6 +228,78 @@ module _ (names : Names) where
     paths = node names path_of (Expr-F.Name path ws) (path ∷ []) ps (λ role fixed W T. refl) (λ role fixed W T. h.paths (is_driven role) fixed);
   }
 
+  kept-un : (op : Op) (a : Walk) (p : List Path) → Kept a p → Kept (walk_step names (Expr-F.Un op a)) p
+  kept-un op a p g = kept-one (Expr-F.Un op a) a p g refl refl (λ h. at-un names no_constant op a [] (λ role fixed W T. refl) h)
+      (λ h. at-un names path_of op a p (λ role fixed W T. refl) h)
+
+  kept-cast : (signed : Bool) (a : Walk) (p : List Path) → Kept a p → Kept (walk_step names (Expr-F.Cast signed a)) p
+  kept-cast signed a p g = kept-one (Expr-F.Cast signed a) a p g refl refl (λ h. at-cast names no_constant signed a [] (λ role fixed W T. refl) h)
+      (λ h. at-cast names path_of signed a p (λ role fixed W T. refl) h)
+
+  kept-bin : (op : Op) (a b : Walk) (p q : List Path) → Kept a p → Kept b q → Kept (walk_step names (Expr-F.Bin op a b)) (p ++ q)
+  kept-bin op a b p q g i = kept-two (Expr-F.Bin op a b) a b p q g i refl refl (λ h k. at-bin names no_constant op a b [] [] (λ role fixed W T. refl) h k)
+      (λ h k. at-bin names path_of op a b p q (λ role fixed W T. refl) h k)
+
+  kept-div : (a b : Walk) (p q : List Path) → Kept a p → Kept b q → Kept (walk_step names (Expr-F.Div a b)) (p ++ q)
+  kept-div a b p q g i = kept-two (Expr-F.Div a b) a b p q g i refl refl (λ h k. at-div names no_constant a b [] [] (λ role fixed W T. refl) h k)
+      (λ h k. at-div names path_of a b p q (λ role fixed W T. refl) h k)
+
+  kept-rem : (a b : Walk) (p q : List Path) → Kept a p → Kept b q → Kept (walk_step names (Expr-F.Rem a b)) (p ++ q)
+  kept-rem a b p q g i = kept-two (Expr-F.Rem a b) a b p q g i refl refl (λ h k. at-rem names no_constant a b [] [] (λ role fixed W T. refl) h k)
+      (λ h k. at-rem names path_of a b p q (λ role fixed W T. refl) h k)
+
+  kept-more : (w : Walk) (ws : List Walk) (p ps : List Path) → Kept w p → AllKept ws ps → AllKept (w ∷ ws) (p ++ ps)
+  kept-more w ws p ps h k = record {
+    reads = λ z. two (λ (a b : List Bit). a ++ b) _ _ _ _ (h.reads (and-left w.shown.reading.constant _ z)) (k.reads (and-right w.shown.reading.constant _ z));
+    steady = λ z role fixed. joined no_constant (own_sites role fixed w) (flat_map (own_sites role fixed) ws) [] []
+        (own no_constant w [] (h.steady (and-left w.shown.reading.constant _ z)) role fixed) (k.steady (and-right w.shown.reading.constant _ z) role fixed);
+    paths = λ role fixed. joined path_of (own_sites role fixed w) (flat_map (own_sites role fixed) ws) p ps (own path_of w p h.paths role fixed) (k.paths role fixed);
+  }
+
+  steps-more : (w : WalkStep) (ws : List WalkStep) (p ps : List Path) → StepKept w p → StepsKept ws ps → StepsKept (w ∷ ws) (p ++ ps)
+  steps-more w ws p ps h k = record {
+    reads = λ z. two (λ (a b : List Bit). a ++ b) _ _ _ _ (h.reads (and-left (list_all (λ r. r.constant) (parts_of (step_choice (step_shown w)))) _ z))
+        (k.reads (and-right (list_all (λ r. r.constant) (parts_of (step_choice (step_shown w)))) _ z));
+    steady = λ z constant fixed. joined no_constant (step_sites constant fixed w) (flat_map (step_sites constant fixed) ws) [] []
+        ((h.steady (and-left (list_all (λ r. r.constant) (parts_of (step_choice (step_shown w)))) _ z)).at constant fixed)
+        (k.steady (and-right (list_all (λ r. r.constant) (parts_of (step_choice (step_shown w)))) _ z) constant fixed);
+    paths = λ constant fixed. joined path_of (step_sites constant fixed w) (flat_map (step_sites constant fixed) ws) p ps (h.paths.at constant fixed) (k.paths constant fixed);
+  }
+
+  kept-bit : (a : Walk) (p : List Path) → Kept a p → StepKept (Select-F.Bit a) p
+  kept-bit a p h = record {
+    reads = λ z. one-empty a.shown.reading.reads (h.reads (and-left a.shown.reading.constant true z));
+    steady = λ z. step-bit no_constant a [] (h.steady (and-left a.shown.reading.constant true z));
+    paths = step-bit path_of a p h.paths;
+  }
+
+  kept-part : (a b : Walk) (p q : List Path) → Kept a p → Kept b q → StepKept (Select-F.Part a b) (p ++ q)
+  kept-part a b p q h k = record {
+    reads = λ z. two-empty a.shown.reading.reads b.shown.reading.reads (h.reads (part-left a.shown.reading.constant b.shown.reading.constant z))
+        (k.reads (part-right a.shown.reading.constant b.shown.reading.constant z));
+    steady = λ z. step-part no_constant a b [] [] (h.steady (part-left a.shown.reading.constant b.shown.reading.constant z))
+        (k.steady (part-right a.shown.reading.constant b.shown.reading.constant z));
+    paths = step-part path_of a b p q h.paths k.paths;
+  }
+
+  kept-up : (a b : Walk) (p q : List Path) → Kept a p → Kept b q → StepKept (Select-F.Up a b) (p ++ q)
+  kept-up a b p q h k = record {
+    reads = λ z. two-empty a.shown.reading.reads b.shown.reading.reads (h.reads (part-left a.shown.reading.constant b.shown.reading.constant z))
+        (k.reads (part-right a.shown.reading.constant b.shown.reading.constant z));
+    steady = λ z. step-up no_constant a b [] [] (h.steady (part-left a.shown.reading.constant b.shown.reading.constant z))
+        (k.steady (part-right a.shown.reading.constant b.shown.reading.constant z));
+    paths = step-up path_of a b p q h.paths k.paths;
+  }
+
+  kept-down : (a b : Walk) (p q : List Path) → Kept a p → Kept b q → StepKept (Select-F.Down a b) (p ++ q)
+  kept-down a b p q h k = record {
+    reads = λ z. two-empty a.shown.reading.reads b.shown.reading.reads (h.reads (part-left a.shown.reading.constant b.shown.reading.constant z))
+        (k.reads (part-right a.shown.reading.constant b.shown.reading.constant z));
+    steady = λ z. step-down no_constant a b [] [] (h.steady (part-left a.shown.reading.constant b.shown.reading.constant z))
+        (k.steady (part-right a.shown.reading.constant b.shown.reading.constant z));
+    paths = step-down path_of a b p q h.paths k.paths;
+  }
+
   mutual
     fold-kept : (z : Expr) → Kept (fold_expr Walk WalkStep (walk_step names) walk_select_step z) (fold_expr (List Path) (List Path) path_step path_choice z)
     fold-kept (e.Lit l) = record {
@@ -236,19 +308,14 @@ module _ (names : Names) where
       paths = node names path_of (Expr-F.Lit l) [] [] (λ role fixed W T. refl) (λ role fixed W T. refl);
     }
     fold-kept (e.Name' path n ss) = kept-name path _ _ (fold-steps ss)
-    fold-kept (e.Un' op n a) = kept-one (Expr-F.Un op _) _ _ (fold-one a) refl refl (λ h. at-un names no_constant op _ [] (λ role fixed W T. refl) h)
-        (λ h. at-un names path_of op _ _ (λ role fixed W T. refl) h)
-    fold-kept (e.Bin' op n a m b) = kept-two (Expr-F.Bin op _ _) _ _ _ _ (fold-one a) (fold-one b) refl refl
-        (λ h k. at-bin names no_constant op _ _ [] [] (λ role fixed W T. refl) h k) (λ h k. at-bin names path_of op _ _ _ _ (λ role fixed W T. refl) h k)
-    fold-kept (e.Div' n a m b) = kept-two (Expr-F.Div _ _) _ _ _ _ (fold-one a) (fold-one b) refl refl
-        (λ h k. at-div names no_constant _ _ [] [] (λ role fixed W T. refl) h k) (λ h k. at-div names path_of _ _ _ _ (λ role fixed W T. refl) h k)
-    fold-kept (e.Rem' n a m b) = kept-two (Expr-F.Rem _ _) _ _ _ _ (fold-one a) (fold-one b) refl refl
-        (λ h k. at-rem names no_constant _ _ [] [] (λ role fixed W T. refl) h k) (λ h k. at-rem names path_of _ _ _ _ (λ role fixed W T. refl) h k)
+    fold-kept (e.Un' op n a) = kept-un op _ _ (fold-one a)
+    fold-kept (e.Bin' op n a m b) = kept-bin op _ _ _ _ (fold-one a) (fold-one b)
+    fold-kept (e.Div' n a m b) = kept-div _ _ _ _ (fold-one a) (fold-one b)
+    fold-kept (e.Rem' n a m b) = kept-rem _ _ _ _ (fold-one a) (fold-one b)
     fold-kept (e.Cond' n c m a k b) = kept-cond _ _ _ _ _ _ (fold-one c) (fold-one a) (fold-one b)
     fold-kept (e.Cat' n es) = kept-cat _ _ (fold-all es)
     fold-kept (e.Rep' n a m es) = kept-rep _ _ _ _ (fold-one a) (fold-all es)
-    fold-kept (e.Cast' signed n a) = kept-one (Expr-F.Cast signed _) _ _ (fold-one a) refl refl
-        (λ h. at-cast names no_constant signed _ [] (λ role fixed W T. refl) h) (λ h. at-cast names path_of signed _ _ (λ role fixed W T. refl) h)
+    fold-kept (e.Cast' signed n a) = kept-cast signed _ _ (fold-one a)
 
     fold-one : {n : _} (r : Row_of-Expr n) → Kept (fold_one Walk WalkStep (walk_step names) walk_select_step r) (fold_one (List Path) (List Path) path_step path_choice r)
     fold-one end_of-Expr = kept-cat [] [] (record { reads = λ z. refl; steady = λ z role fixed. refl; paths = λ role fixed. refl })
@@ -257,46 +324,18 @@ module _ (names : Names) where
     fold-all : {n : _} (r : Row_of-Expr n) → AllKept (fold_exprs Walk WalkStep (walk_step names) walk_select_step r)
         (flat_map (λ ps. ps) (fold_exprs (List Path) (List Path) path_step path_choice r))
     fold-all end_of-Expr = record { reads = λ z. refl; steady = λ z role fixed. refl; paths = λ role fixed. refl }
-    fold-all (more_of-Expr x xs) =
-        let h = fold-kept x in
-        let k = fold-all xs in record {
-          reads = λ z. two (λ (a b : List Bit). a ++ b) _ _ _ _ (h.reads (and-left _ _ z)) (k.reads (and-right _ _ z));
-          steady = λ z role fixed. joined no_constant _ _ [] [] (own no_constant _ [] (h.steady (and-left _ _ z)) role fixed) (k.steady (and-right _ _ z) role fixed);
-          paths = λ role fixed. joined path_of _ _ _ _ (own path_of _ _ h.paths role fixed) (k.paths role fixed);
-        }
+    fold-all (more_of-Expr x xs) = kept-more _ _ _ _ (fold-kept x) (fold-all xs)
 
     fold-step : (z : Select) → StepKept (fold_select Walk WalkStep (walk_step names) walk_select_step z) (fold_select (List Path) (List Path) path_step path_choice z)
-    fold-step (s.Bit' n a) = let h = fold-one a in record {
-      reads = λ z. one-empty _ (h.reads (and-left _ true z));
-      steady = λ z. step-bit no_constant _ [] (h.steady (and-left _ true z));
-      paths = step-bit path_of _ _ h.paths;
-    }
-    fold-step (s.Part' n a m b) = let h = fold-one a in let k = fold-one b in record {
-      reads = λ z. two-empty _ _ (h.reads (part-left _ _ z)) (k.reads (part-right _ _ z));
-      steady = λ z. step-part no_constant _ _ [] [] (h.steady (part-left _ _ z)) (k.steady (part-right _ _ z));
-      paths = step-part path_of _ _ _ _ h.paths k.paths;
-    }
-    fold-step (s.Up' n a m b) = let h = fold-one a in let k = fold-one b in record {
-      reads = λ z. two-empty _ _ (h.reads (part-left _ _ z)) (k.reads (part-right _ _ z));
-      steady = λ z. step-up no_constant _ _ [] [] (h.steady (part-left _ _ z)) (k.steady (part-right _ _ z));
-      paths = step-up path_of _ _ _ _ h.paths k.paths;
-    }
-    fold-step (s.Down' n a m b) = let h = fold-one a in let k = fold-one b in record {
-      reads = λ z. two-empty _ _ (h.reads (part-left _ _ z)) (k.reads (part-right _ _ z));
-      steady = λ z. step-down no_constant _ _ [] [] (h.steady (part-left _ _ z)) (k.steady (part-right _ _ z));
-      paths = step-down path_of _ _ _ _ h.paths k.paths;
-    }
+    fold-step (s.Bit' n a) = kept-bit _ _ (fold-one a)
+    fold-step (s.Part' n a m b) = kept-part _ _ _ _ (fold-one a) (fold-one b)
+    fold-step (s.Up' n a m b) = kept-up _ _ _ _ (fold-one a) (fold-one b)
+    fold-step (s.Down' n a m b) = kept-down _ _ _ _ (fold-one a) (fold-one b)
 
     fold-steps : {n : _} (r : Row_of-Select n) → StepsKept (fold_selects Walk WalkStep (walk_step names) walk_select_step r)
         (flat_map (λ ps. ps) (fold_selects (List Path) (List Path) path_step path_choice r))
     fold-steps end_of-Select = record { reads = λ z. refl; steady = λ z constant fixed. refl; paths = λ constant fixed. refl }
-    fold-steps (more_of-Select x xs) =
-        let h = fold-step x in
-        let k = fold-steps xs in record {
-          reads = λ z. two (λ (a b : List Bit). a ++ b) _ _ _ _ (h.reads (and-left _ _ z)) (k.reads (and-right _ _ z));
-          steady = λ z constant fixed. joined no_constant _ _ [] [] ((h.steady (and-left _ _ z)).at constant fixed) (k.steady (and-right _ _ z) constant fixed);
-          paths = λ constant fixed. joined path_of _ _ _ _ (h.paths.at constant fixed) (k.paths constant fixed);
-        }
+    fold-steps (more_of-Select x xs) = steps-more _ _ _ _ (fold-step x) (fold-steps xs)
 
   pub constant-reads : (z : Expr) → (walk names z).shown.reading.constant ≡ true → (walk names z).shown.reading.reads ≡ []
   unfolding walk

@@ -1,5 +1,5 @@
 -- What is answered of an expression where it stands.
-use Rattle.std.specs.Prelude.{◌≡◌, ℕ, ◌≤◌, max, Bool, true, List, [], Option, None, Result, IfOk, IfErr, Contains, flat_map, ⊤}
+use Rattle.std.specs.Prelude.{◌≡◌, ℕ, ◌≤◌, max, Bool, true, false, List, [], Option, None, Result, IfOk, IfErr, Contains, flat_map, ⊤}
 use Rattle.lv_ast.specs.declared.expr.Expr.{Expr}
 use Rattle.lv_source.specs.Names.{Here}
 use Rattle.lv_source.specs.Meaning.{read_expr}

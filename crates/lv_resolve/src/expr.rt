@@ -1,6 +1,5 @@
-ghost use Rattle.std.specs.Prelude.{◌≡◌, ◌∷◌, ◌&&◌, map, true};
+ghost use Rattle.std.specs.Prelude.{◌≡◌, map, true};
 ghost use Rattle.std.specs.List.{list_all};
-ghost use Rattle.lv_ast.specs.declared.expr.Expr.TheOpen.{Select-F};
 ghost use Rattle.lv_source.specs.Names.{Declared};
 ghost use Rattle.lv_source.specs.Sites.{walk, walk_select};
 ghost use Rattle.lv_flat.specs.Signals.{declared_all};
@@ -257,7 +256,10 @@ fn picks<B: Bindings>(
     if selects.len() == 0 {
         return Ok(whole(alloc, head));
     }
-    if selects.len() != 1 || !head.ranged {
+    if selects.len() != 1 {
+        return Err(ResolveError::Range(at));
+    }
+    if !head.ranged {
         return Err(ResolveError::Range(at));
     }
     match pick(alloc, place, head, at, &selects[0]) {
@@ -284,41 +286,28 @@ fn array_picks<B: Bindings>(
         return Err(ResolveError::UnknownName(at));
     }
     match &selects[0] {
-        Select::Bit(index) => indexed(alloc, place, head, at, index, &selects[1..]),
+        Select::Bit(index) => {
+            if selects.len() == 1 {
+                return match operand(alloc, place, index, true) {
+                    Err(error) => Err(error),
+                    Ok(index) => element(alloc, head, index),
+                };
+            }
+            if selects.len() != 2 {
+                return Err(ResolveError::Range(at));
+            }
+            if !head.ranged {
+                return Err(ResolveError::Range(at));
+            }
+            match operand(alloc, place, index, true) {
+                Err(error) => Err(error),
+                Ok(index) => match pick(alloc, place, head, at, &selects[1]) {
+                    Err(error) => Err(error),
+                    Ok(found) => element_bits(alloc, head, index, found),
+                },
+            }
+        }
         _ => Err(ResolveError::UnknownName(at)),
-    }
-}
-
-/// Those of an array behind that of an element.
-#[cycle(forms)]
-fn indexed<B: Bindings>(
-    alloc: Global,
-    place: &Place<B>,
-    head: &Head,
-    at: u64,
-    index: &Boxed<Expr>,
-    rest: &[Select],
-) -> Result<Picks, ResolveError>
-    requires { head.now.array ≡ true }
-    ensures { Anywhere (declared_all place.now.signals.now) (B.numbers place.now.bindings.now) place.now.all.now place.now.early.now (λ here.
-        (d : Declared) → IsHead d head.now → PicksAnswer (declared_all place.now.signals.now) here d (has_operands index.now && list_all has_select_operands rest.now)
-        (Select-F.Bit (walk here.names index.now) ∷ map (walk_select here.names) rest.now) at result) }
-{
-    if rest.len() == 0 {
-        return match operand(alloc, place, index, true) {
-            Err(error) => Err(error),
-            Ok(index) => element(alloc, head, index),
-        };
-    }
-    if rest.len() != 1 || !head.ranged {
-        return Err(ResolveError::Range(at));
-    }
-    match operand(alloc, place, index, true) {
-        Err(error) => Err(error),
-        Ok(index) => match pick(alloc, place, head, at, &rest[0]) {
-            Err(error) => Err(error),
-            Ok(found) => element_bits(alloc, head, index, found),
-        },
     }
 }
 

@@ -19,7 +19,7 @@ abbrev pub decreases-member : goal.decreases-member
 decreases-member g l = 8 * goal.size-member g l + 1
 
 abbrev pub decreases-members : goal.decreases-members
-decreases-members g l = 8 * goal.size-members g l + 1
+decreases-members g l = 8 * goal.size-members g l + 2
 
 abbrev pub decreases-both : goal.decreases-both
 decreases-both g l = 8 * max (goal.size-both g l) (goal.size-both g (record l { a = l.b })) + 2
@@ -32,9 +32,6 @@ decreases-pick g l = 8 * goal.size-pick g l + 1
 
 abbrev pub decreases-array_picks : goal.decreases-array_picks
 decreases-array_picks g l = 8 * goal.size-array_picks g l + 3
-
-abbrev pub decreases-indexed : goal.decreases-indexed
-decreases-indexed g l = 8 * max (goal.size-indexed g l) (goal.size-indexed g l) + 2
 
 abbrev pub decreases-picks : goal.decreases-picks
 decreases-picks g l = 8 * goal.size-picks g l + 4

@@ -192,6 +192,18 @@ module _ (S : Signals) (here : Here) (z y : Expr) (e : z ≡ y) where
   }
   operand-none false q h = record { right = tt; wrong = subst (λ u. HasNoForm here (read_sites false (walk here.names u)) q) e h }
 
+  pub at-full : (full : Bool) → full ≡ true → (r : Result Form ResolveError) →
+      FormAnswer S here (settled_sites (read_sites false (walk here.names z)) (walk here.names z)) 0 (walk here.names z) (has_operands z) r →
+      FormAnswer S here (operand_sites full (walk here.names y)) (operand_least full (walk here.names y)) (walk here.names y) (has_operands y) r
+  at-full full k r h = subst (λ b. FormAnswer S here (operand_sites b (walk here.names y)) (operand_least b (walk here.names y)) (walk here.names y) (has_operands y) r) (sym k)
+      (operand-settled r h)
+
+  pub at-kept : (full : Bool) → full ≡ false → (r : Result Form ResolveError) →
+      FormAnswer S here (read_sites false (walk here.names z)) (wide (walk here.names z)) (walk here.names z) (has_operands z) r →
+      FormAnswer S here (operand_sites full (walk here.names y)) (operand_least full (walk here.names y)) (walk here.names y) (has_operands y) r
+  at-kept full k r h = subst (λ b. FormAnswer S here (operand_sites b (walk here.names y)) (operand_least b (walk here.names y)) (walk here.names y) (has_operands y) r) (sym k)
+      (operand-kept r h)
+
 module _ (S : Signals) (here : Here) (z : Expr) where
   pub member-none : (q : ResolveError) → HasNoForm here (read_sites true (walk here.names z)) q →
       FormAnswer S here (member_sites (walk here.names z)) 0 (walk here.names z) (has_operands z) (Err q)

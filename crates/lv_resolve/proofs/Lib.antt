@@ -11,6 +11,7 @@ pub mod OperandLaws
 pub mod PartLaws
 pub mod PickLaws
 pub mod Rules
+pub mod SelectArms
 pub mod Settles
 pub mod Steady
 pub mod Zeros

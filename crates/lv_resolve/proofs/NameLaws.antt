@@ -373,6 +373,7 @@ module _ (S : Signals) (here : Here) (path : Path) (ws : List WalkStep) (ok : Bo
     };
   }
 
+module _ (S : Signals) (here : Here) (path : Path) (ws : List WalkStep) (ok : Bool) where
   pub picks-wrong : (d : Declared) (y : ResolveError) → here.names path ≡ Some d → can_be_read d.sort ≡ true → HasNoPicks here d ws path.place y →
       NameAnswer S here path ws ok (Err y)
   picks-wrong d y known sort h = record { told = λ joined. name-wrong S here path ws ok joined d known sort y h }

@@ -248,7 +248,8 @@ module _ (S : Signals) (here : Here) (h : Head) where
         flat_fits = ap (λ z. is_good_step b (step_of (judge_select S z).choice)) k.taken.tree ∙
             (ap (λ (z : JudgedSelect). is_good_step b (step_of z.choice)) (judge_select-Up S i.operand.expr n.word.value) ∙ and-right (is_low n) (is_width n.word.value) k.fits);
         width = k.taken.wide ∙ gn.value;
-        constant = k.taken.fixed ∙ two (λ (x y : Bool). x && y) _ _ _ _ gi.operand.constant (sym (and-both wn.shown.reading.constant true gn.constant refl));
+        constant = k.taken.fixed ∙ (gi.operand.constant ∙ (and-one wi.shown.reading.constant ∙
+            ap (λ z. wi.shown.reading.constant && z) (sym (and-both wn.shown.reading.constant true gn.constant refl))));
         cover = covered-same here (λ W T. operand_sites true wi W T ++ fixed_sites wn) (pick_sites (Select-F.Up wi wn)) 0 0 (i.notes.clocks ++ []) p.clocks [] [] (λ W T. refl)
             (omega arith) (append-nil i.notes.clocks ∙ sym k.taken.noted) refl run-cover;
       };
@@ -269,7 +270,8 @@ module _ (S : Signals) (here : Here) (h : Head) where
         flat_fits = ap (λ z. is_good_step b (step_of (judge_select S z).choice)) k.taken.tree ∙
             (ap (λ (z : JudgedSelect). is_good_step b (step_of z.choice)) (judge_select-Down S i.operand.expr n.word.value) ∙ and-right (is_low n) (is_width n.word.value) k.fits);
         width = k.taken.wide ∙ gn.value;
-        constant = k.taken.fixed ∙ two (λ (x y : Bool). x && y) _ _ _ _ gi.operand.constant (sym (and-both wn.shown.reading.constant true gn.constant refl));
+        constant = k.taken.fixed ∙ (gi.operand.constant ∙ (and-one wi.shown.reading.constant ∙
+            ap (λ z. wi.shown.reading.constant && z) (sym (and-both wn.shown.reading.constant true gn.constant refl))));
         cover = covered-same here (λ W T. operand_sites true wi W T ++ fixed_sites wn) (pick_sites (Select-F.Down wi wn)) 0 0 (i.notes.clocks ++ []) p.clocks [] [] (λ W T. refl)
             (omega arith) (append-nil i.notes.clocks ∙ sym k.taken.noted) refl run-cover;
       };

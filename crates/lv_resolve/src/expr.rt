@@ -307,7 +307,9 @@ fn array_picks<B: Bindings>(
                 },
             }
         }
-        _ => Err(ResolveError::UnknownName(at)),
+        Select::Part(_, _) => Err(ResolveError::UnknownName(at)),
+        Select::Up(_, _) => Err(ResolveError::UnknownName(at)),
+        Select::Down(_, _) => Err(ResolveError::UnknownName(at)),
     }
 }
 

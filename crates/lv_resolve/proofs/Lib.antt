@@ -1,0 +1,17 @@
+pub mod Answered
+pub mod Arms
+pub mod Bounds
+pub mod Covers
+pub mod FixedLaws
+pub mod LateNames
+pub mod Lengths
+pub mod NameLaws
+pub mod Nodes
+pub mod OperandLaws
+pub mod PartLaws
+pub mod PickLaws
+pub mod Rules
+pub mod SelectArms
+pub mod Settles
+pub mod Steady
+pub mod Zeros

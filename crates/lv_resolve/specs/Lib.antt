@@ -1,0 +1,6 @@
+pub mod Forms
+pub mod Joins
+pub mod Late
+pub mod Picks
+pub mod Places
+pub mod Resolved

@@ -1,0 +1,17 @@
+use lv_flat::FlatExpr;
+use lv_held::Held;
+use sqlite_items::Items;
+
+/// A flat tree, and the places of the clock names in it.
+pub struct Resolved {
+    pub expr: Held<FlatExpr>,
+    pub clocks: Items<u64>,
+}
+
+impl Drop for Resolved {
+    fn drop(self) {
+        let Resolved { expr, clocks } = self;
+        drop(expr);
+        drop(clocks);
+    }
+}

@@ -143,9 +143,9 @@ module _ (here : Here) where
         none-joined zero_divisor (s W T) (t W T) (a.none W T (first-empty _ _ k)) (b.none W T (second-empty _ _ k));
     some = λ W T p h. elim (Contains-append_cases (flat_map (zeros_at here.names W T) ds) (flat_map (zeros_at here.names W T) fs) p
         (in-same _ _ p (flat_map-append (zeros_at here.names W T) ds fs) h)) [
-        | inl k ↦ (within-first (s W T) (t W T)).more zero_divisor p (a.some W T p k)
-        | inr k ↦ (within-second (s W T) (t W T)).more zero_divisor p (b.some W T p k)
-      ];
+          | inl k ↦ (within-first (s W T) (t W T)).more zero_divisor p (a.some W T p k)
+          | inr k ↦ (within-second (s W T) (t W T)).more zero_divisor p (b.some W T p k)
+        ];
   }
 
   -- once the divisors are looked at

@@ -354,5 +354,5 @@ module _ (S : Signals) (find : Path → Option ℕ) (all early : List Entry) (he
         let g : Found (all_faults here.early) sites (y.NoValue p) = found (all_faults here.early) sites (y.NoValue p) (told-sites here e (y.NoValue p) t).found in
         let z : Stands here.names g.one = All-contains (Stands here.names) sites g.one all-stand g.among in
         let n : no_value here.early g.one ≡ [] = valued g.one [] z.named (λ m c. early-is m (names_of early m) (find m) (names_of all m) refl
-            (none-late (late_name find all early) (paths_in e) m h (in-same _ _ m path-sites (gathered path_of sites g.one m g.among c)))) in
+        (none-late (late_name find all early) (paths_in e) m h (in-same _ _ m path-sites (gathered path_of sites g.one m g.among c)))) in
         absurd (no-name here.early g.one p n g.holds)

@@ -196,7 +196,8 @@ module _ (S : Signals) (here : Here) (d : Declared) (h : Head) (hd : IsHead d h)
                 width = i.width ∙ one_width;
                 signed = i.signed ∙ one_signed;
                 constant = i.constant ∙ two (λ (a c : Bool). a && c) _ _ _ _ (sym hd.constant) (g.operand.constant ∙ (and-one _ ∙ and-one _));
-                cover = covered-same here (λ W T. operand_sites true w W T ++ []) (picks_sites (Select-F.Bit w ∷ [])) 0 0 (f.notes.clocks ++ []) p.clocks (f.notes.divisors ++ []) [] (λ W T. refl) (omega arith)
+                cover = covered-same here (λ W T. operand_sites true w W T ++ []) (picks_sites (Select-F.Bit w ∷ [])) 0 0 (f.notes.clocks ++ []) p.clocks (f.notes.divisors ++ []) [] (λ W T. refl)
+                    (omega arith)
                     (append-nil f.notes.clocks ∙ sym i.clocks) (append-nil f.notes.divisors ∙ g.cover.waiting refl)
                     (covered-both here (operand_sites true w) (λ W T. []) 0 f.notes.clocks [] f.notes.divisors [] g.cover (covered-nothing here 0));
               };

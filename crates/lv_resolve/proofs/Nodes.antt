@@ -159,12 +159,12 @@ module _ (S : Signals) (here : Here) (joined : Bool) where
   un-node op w ok a f h i =
       let y : FlatExpr = e.Un op a.operand.expr in
       let o : HasOperand S (node (Expr-F.Un op w)) (is_unary op && ok) f.operand =
-          has-operand S y (node (Expr-F.Un op w)) (is_unary op && ok) _ _ _ f.operand i.tree
-          (alike.alike-Un S here.names op a.operand.expr w.shown.reading h.operand.same)
-          (un-width op w.shown.reading.meaning a.operand.width h.operand.width) (un-signed op w.shown.reading.meaning a.operand.signed h.operand.signed)
-          (h.operand.constant ∙ and-true w.shown.reading.constant)
-          (λ k m. good-by S y (FlatExpr-F.Un op (judge S a.operand.expr)) (judge-Un S op a.operand.expr) m
-          (and-both (is_unary op) (is_good S a.operand.expr) (and-left (is_unary op) ok k) (h.operand.good (and-right (is_unary op) ok k)))) in
+      has-operand S y (node (Expr-F.Un op w)) (is_unary op && ok) _ _ _ f.operand i.tree
+      (alike.alike-Un S here.names op a.operand.expr w.shown.reading h.operand.same)
+      (un-width op w.shown.reading.meaning a.operand.width h.operand.width) (un-signed op w.shown.reading.meaning a.operand.signed h.operand.signed)
+      (h.operand.constant ∙ and-true w.shown.reading.constant)
+      (λ k m. good-by S y (FlatExpr-F.Un op (judge S a.operand.expr)) (judge-Un S op a.operand.expr) m
+      (and-both (is_unary op) (is_good S a.operand.expr) (and-left (is_unary op) ok k) (h.operand.good (and-right (is_unary op) ok k)))) in
       let fits : is_width (wide (node (Expr-F.Un op w))) ≡ true = operand-width S (node (Expr-F.Un op w)) (is_unary op && ok) f.operand o in
       record {
         operand = o;
@@ -194,10 +194,10 @@ module _ (S : Signals) (here : Here) (joined : Bool) where
   cast-answer signed w ok a (Ok f) h i m =
       let y : FlatExpr = e.Cast signed a.operand.expr in
       let o : HasOperand S (node (Expr-F.Cast signed w)) ok f.operand =
-          has-operand S y (node (Expr-F.Cast signed w)) ok _ _ _ f.operand i.tree
-          (alike.alike-Cast S here.names signed a.operand.expr w.shown.reading h.operand.same) h.operand.width refl
-          (h.operand.constant ∙ and-true w.shown.reading.constant)
-          (λ k m. good-by S y (FlatExpr-F.Cast signed (judge S a.operand.expr)) (judge-Cast S signed a.operand.expr) m (h.operand.good k)) in
+      has-operand S y (node (Expr-F.Cast signed w)) ok _ _ _ f.operand i.tree
+      (alike.alike-Cast S here.names signed a.operand.expr w.shown.reading h.operand.same) h.operand.width refl
+      (h.operand.constant ∙ and-true w.shown.reading.constant)
+      (λ k m. good-by S y (FlatExpr-F.Cast signed (judge S a.operand.expr)) (judge-Cast S signed a.operand.expr) m (h.operand.good k)) in
       let fits : is_width (wide (node (Expr-F.Cast signed w))) ≡ true = operand-width S (node (Expr-F.Cast signed w)) ok f.operand o in
       record {
         right = record {
@@ -247,15 +247,15 @@ module _ (S : Signals) (here : Here) (joined : Bool) where
       let n : Walk = node (Expr-F.Bin op a b) in
       let ok : Bool = not (is_unary op) && (oka && okb) in
       let o : HasOperand S n ok f.operand =
-          has-operand S y n ok _ _ _ f.operand i.tree
-          (alike.alike-Bin S here.names op p.left.expr p.right.expr a.shown.reading b.shown.reading h.left.same h.right.same)
-          (bin-width op a.shown.reading.meaning b.shown.reading.meaning p.left.width p.right.width h.left.width h.right.width)
-          (bin-signed op a.shown.reading.meaning b.shown.reading.meaning p.left.signed p.right.signed h.left.signed h.right.signed)
-          (two (λ (j k : Bool). j && k) _ _ _ _ h.left.constant (h.right.constant ∙ and-true b.shown.reading.constant))
-          (λ k m. good-by S y (FlatExpr-F.Bin op (judge S p.left.expr) (judge S p.right.expr)) (judge-Bin S op p.left.expr p.right.expr) m
-          (and-both (not (is_unary op)) _ (and-left (not (is_unary op)) (oka && okb) k)
-          (and-both (is_good S p.left.expr) (is_good S p.right.expr) (h.left.good (and-left oka okb (and-right (not (is_unary op)) (oka && okb) k)))
-          (h.right.good (and-right oka okb (and-right (not (is_unary op)) (oka && okb) k)))))) in
+      has-operand S y n ok _ _ _ f.operand i.tree
+      (alike.alike-Bin S here.names op p.left.expr p.right.expr a.shown.reading b.shown.reading h.left.same h.right.same)
+      (bin-width op a.shown.reading.meaning b.shown.reading.meaning p.left.width p.right.width h.left.width h.right.width)
+      (bin-signed op a.shown.reading.meaning b.shown.reading.meaning p.left.signed p.right.signed h.left.signed h.right.signed)
+      (two (λ (j k : Bool). j && k) _ _ _ _ h.left.constant (h.right.constant ∙ and-true b.shown.reading.constant))
+      (λ k m. good-by S y (FlatExpr-F.Bin op (judge S p.left.expr) (judge S p.right.expr)) (judge-Bin S op p.left.expr p.right.expr) m
+      (and-both (not (is_unary op)) _ (and-left (not (is_unary op)) (oka && okb) k)
+      (and-both (is_good S p.left.expr) (is_good S p.right.expr) (h.left.good (and-left oka okb (and-right (not (is_unary op)) (oka && okb) k)))
+      (h.right.good (and-right oka okb (and-right (not (is_unary op)) (oka && okb) k)))))) in
       let fits : is_width (wide n) ≡ true = operand-width S n ok f.operand o in
       record {
         right = record {

@@ -85,14 +85,14 @@ module _ (S : Signals) (here : Here) (joined : Bool) where
       let n : Walk = node (Expr-F.Cond c a b) in
       let ok : Bool = okc && (oka && okb) in
       let o : HasOperand S n ok f.operand =
-          has-operand S y n ok _ _ _ f.operand j.tree
-          (alike.alike-Cond S here.names fc.operand.expr fa.operand.expr fb.operand.expr c.shown.reading a.shown.reading b.shown.reading g.operand.same h.operand.same i.operand.same)
-          (two (λ (p q : ℕ). max p q) _ _ _ _ h.operand.width i.operand.width) (two (λ (p q : Bool). p && q) _ _ _ _ h.operand.signed i.operand.signed)
-          (two (λ (p q : Bool). p && q) _ _ _ _ g.operand.constant (two (λ (p q : Bool). p && q) _ _ _ _ h.operand.constant (i.operand.constant ∙ and-true b.shown.reading.constant)))
-          (λ k m. good-by S y (FlatExpr-F.Cond (judge S fc.operand.expr) (judge S fa.operand.expr) (judge S fb.operand.expr))
-          (judge-Cond S fc.operand.expr fa.operand.expr fb.operand.expr) m
-          (and-both _ _ (g.operand.good (and-left okc (oka && okb) k)) (and-both _ _ (h.operand.good (and-left oka okb (and-right okc (oka && okb) k)))
-          (i.operand.good (and-right oka okb (and-right okc (oka && okb) k)))))) in
+      has-operand S y n ok _ _ _ f.operand j.tree
+      (alike.alike-Cond S here.names fc.operand.expr fa.operand.expr fb.operand.expr c.shown.reading a.shown.reading b.shown.reading g.operand.same h.operand.same i.operand.same)
+      (two (λ (p q : ℕ). max p q) _ _ _ _ h.operand.width i.operand.width) (two (λ (p q : Bool). p && q) _ _ _ _ h.operand.signed i.operand.signed)
+      (two (λ (p q : Bool). p && q) _ _ _ _ g.operand.constant (two (λ (p q : Bool). p && q) _ _ _ _ h.operand.constant (i.operand.constant ∙ and-true b.shown.reading.constant)))
+      (λ k m. good-by S y (FlatExpr-F.Cond (judge S fc.operand.expr) (judge S fa.operand.expr) (judge S fb.operand.expr))
+      (judge-Cond S fc.operand.expr fa.operand.expr fb.operand.expr) m
+      (and-both _ _ (g.operand.good (and-left okc (oka && okb) k)) (and-both _ _ (h.operand.good (and-left oka okb (and-right okc (oka && okb) k)))
+      (i.operand.good (and-right oka okb (and-right okc (oka && okb) k)))))) in
       let fits : is_width (wide n) ≡ true = operand-width S n ok f.operand o in
       record {
         right = record {
@@ -182,7 +182,7 @@ module _ (here : Here) (a b : Walk) (bx : Expr) (place : ℕ) (site : ℕ → Bo
         let n : flat_map (zeros_at here.names W T) ds ++ (zeros_at here.names W T divisor ++ []) ≡ [] = sym (zeros-last here.names W T ds divisor) ∙ m in
         let i : zeros_at here.names W T divisor ≡ [] = first-empty (zeros_at here.names W T divisor) [] (second-empty (flat_map (zeros_at here.names W T) ds) _ n) in
         let j : ((walk here.names bx).shown.reading.meaning.value W T nowhere == 0) ≡ false =
-            not-taken ((walk here.names bx).shown.reading.meaning.value W T nowhere == 0) place (first-empty _ _ i) in
+        not-taken ((walk here.names bx).shown.reading.meaning.value W T nowhere == 0) place (first-empty _ _ i) in
         both-empty (zero_divisor (site W T)) (flat_map zero_divisor (both_sites a b W T))
         (z W T ∙ zero-none a b W T (ap (λ w. w.shown.reading.meaning.value W T nowhere == 0) (sym e) ∙ j))
         (h.none W T (first-empty (flat_map (zeros_at here.names W T) ds) _ n))
@@ -190,25 +190,25 @@ module _ (here : Here) (a b : Walk) (bx : Expr) (place : ℕ) (site : ℕ → Bo
     in-divisor : (W : ℕ) (T : Bool) (r : ℕ) → Contains (zeros_at here.names W T divisor) r → Contains (flat_map zero_divisor (site W T ∷ both_sites a b W T)) r
     in-divisor W T r m = elim (Contains-append_cases (if (walk here.names bx).shown.reading.meaning.value W T nowhere == 0 then place ∷ [] else [])
         (flat_map zero_divisor ((walk here.names bx).sites Value None W T)) r m) [
-        | inl n ↦
-            let i = taken-zero ((walk here.names bx).shown.reading.meaning.value W T nowhere == 0) place r n in
-            let j : zero_divisor (site W T) ≡ first_of (a.shown.places ++ b.shown.places) ∷ first_place b.shown ∷ [] =
-                z W T ∙ zero-here a b W T c (ap (λ w. w.shown.reading.meaning.value W T nowhere == 0) (sym e) ∙ i.0) in
-            Contains-append_left (zero_divisor (site W T)) (flat_map zero_divisor (both_sites a b W T)) r (in-same _ _ r (sym j) (1, omega arith, sym p ∙ i.1))
-        | inr n ↦ (within-then _ _ _ (within-second (a.sites Value None W T) (b.sites Value None W T)) (within-below (site W T) (both_sites a b W T))).more
-            zero_divisor r (subst (λ w. Contains (flat_map zero_divisor (w.sites Value None W T)) r) e n)
-      ]
+          | inl n ↦
+              let i = taken-zero ((walk here.names bx).shown.reading.meaning.value W T nowhere == 0) place r n in
+              let j : zero_divisor (site W T) ≡ first_of (a.shown.places ++ b.shown.places) ∷ first_place b.shown ∷ [] =
+              z W T ∙ zero-here a b W T c (ap (λ w. w.shown.reading.meaning.value W T nowhere == 0) (sym e) ∙ i.0) in
+              Contains-append_left (zero_divisor (site W T)) (flat_map zero_divisor (both_sites a b W T)) r (in-same _ _ r (sym j) (1, omega arith, sym p ∙ i.1))
+          | inr n ↦ (within-then _ _ _ (within-second (a.sites Value None W T) (b.sites Value None W T)) (within-below (site W T) (both_sites a b W T))).more
+              zero_divisor r (subst (λ w. Contains (flat_map zero_divisor (w.sites Value None W T)) r) e n)
+        ]
 
     division-some : (W : ℕ) (T : Bool) (r : ℕ) → Contains (flat_map (zeros_at here.names W T) (ds ++ divisor ∷ [])) r →
         Contains (flat_map zero_divisor (site W T ∷ both_sites a b W T)) r
     division-some W T r m = elim (Contains-append_cases (flat_map (zeros_at here.names W T) ds) (zeros_at here.names W T divisor ++ []) r
         (in-same _ _ r (zeros-last here.names W T ds divisor) m)) [
-        | inl n ↦ Contains-append_right (zero_divisor (site W T)) (flat_map zero_divisor (both_sites a b W T)) r (h.some W T r n)
-        | inr n ↦ elim (Contains-append_cases (zeros_at here.names W T divisor) [] r n) [
-          | inl i ↦ in-divisor W T r i
-          | inr i ↦ absurd (nowhere-in r i)
+          | inl n ↦ Contains-append_right (zero_divisor (site W T)) (flat_map zero_divisor (both_sites a b W T)) r (h.some W T r n)
+          | inr n ↦ elim (Contains-append_cases (zeros_at here.names W T divisor) [] r n) [
+            | inl i ↦ in-divisor W T r i
+            | inr i ↦ absurd (nowhere-in r i)
+          ]
         ]
-      ]
 
     pub covered-division : Covered here (λ W T. site W T ∷ both_sites a b W T) (both_width a b) cs (ds ++ divisor ∷ [])
     covered-division = record {
@@ -252,10 +252,10 @@ module _ (S : Signals) (here : Here) (joined : Bool) (a b : Walk) (oka okb : Boo
       let n : Walk = walk_step here.names (Expr-F.Div a b) in
       let c : a.shown.reading.constant && b.shown.reading.constant ≡ true = fixed-operands f false i in
       let o : HasOperand S n (oka && okb) f.operand =
-          has-operand S y n (oka && okb) _ _ _ f.operand i.tree (alike.alike-Div S here.names p.left.expr p.right.expr a.shown.reading b.shown.reading h.left.same h.right.same)
-          (two (λ (j k : ℕ). max j k) _ _ _ _ h.left.width h.right.width) (two (λ (j k : Bool). j && k) _ _ _ _ h.left.signed h.right.signed) (all-true c)
-          (λ k m. good-by S y (FlatExpr-F.Div (judge S p.left.expr) (judge S p.right.expr)) (judge-Div S p.left.expr p.right.expr) m
-          (good-fixed true i.left_fixed i.right_fixed k)) in
+      has-operand S y n (oka && okb) _ _ _ f.operand i.tree (alike.alike-Div S here.names p.left.expr p.right.expr a.shown.reading b.shown.reading h.left.same h.right.same)
+      (two (λ (j k : ℕ). max j k) _ _ _ _ h.left.width h.right.width) (two (λ (j k : Bool). j && k) _ _ _ _ h.left.signed h.right.signed) (all-true c)
+      (λ k m. good-by S y (FlatExpr-F.Div (judge S p.left.expr) (judge S p.right.expr)) (judge-Div S p.left.expr p.right.expr) m
+      (good-fixed true i.left_fixed i.right_fixed k)) in
       let fits : is_width (wide n) ≡ true = operand-width S n (oka && okb) f.operand o in
       record {
         right = record {
@@ -283,10 +283,10 @@ module _ (S : Signals) (here : Here) (joined : Bool) (a b : Walk) (oka okb : Boo
       let n : Walk = walk_step here.names (Expr-F.Rem a b) in
       let c : a.shown.reading.constant && b.shown.reading.constant ≡ true = fixed-operands f true i in
       let o : HasOperand S n (oka && okb) f.operand =
-          has-operand S y n (oka && okb) _ _ _ f.operand i.tree (alike.alike-Rem S here.names p.left.expr p.right.expr a.shown.reading b.shown.reading h.left.same h.right.same)
-          (two (λ (j k : ℕ). max j k) _ _ _ _ h.left.width h.right.width) (two (λ (j k : Bool). j && k) _ _ _ _ h.left.signed h.right.signed) (all-true c)
-          (λ k m. good-by S y (FlatExpr-F.Rem (judge S p.left.expr) (judge S p.right.expr)) (judge-Rem S p.left.expr p.right.expr) m
-          (good-fixed true i.left_fixed i.right_fixed k)) in
+      has-operand S y n (oka && okb) _ _ _ f.operand i.tree (alike.alike-Rem S here.names p.left.expr p.right.expr a.shown.reading b.shown.reading h.left.same h.right.same)
+      (two (λ (j k : ℕ). max j k) _ _ _ _ h.left.width h.right.width) (two (λ (j k : Bool). j && k) _ _ _ _ h.left.signed h.right.signed) (all-true c)
+      (λ k m. good-by S y (FlatExpr-F.Rem (judge S p.left.expr) (judge S p.right.expr)) (judge-Rem S p.left.expr p.right.expr) m
+      (good-fixed true i.left_fixed i.right_fixed k)) in
       let fits : is_width (wide n) ≡ true = operand-width S n (oka && okb) f.operand o in
       record {
         right = record {
@@ -418,9 +418,9 @@ module _ (S : Signals) (here : Here) (joined : Bool) where
       let y : FlatExpr = e.Cat p.exprs in
       let n : Walk = walk_step here.names (Expr-F.Cat ws) in
       let o : HasOperand S n ok f.operand =
-          has-operand S y n ok _ _ _ f.operand i.tree (alike.alike-Cat S here.names p.exprs _ (h.same ∙ shown-readings ws))
-          (h.width ∙ sym (shown-widths ws)) refl (h.constant ∙ shown-constant ws)
-          (λ k m. good-by S y (FlatExpr-F.Cat (map (judge S) p.exprs)) (judge-Cat S p.exprs) m (sym (judged-good p.exprs) ∙ h.good k)) in
+      has-operand S y n ok _ _ _ f.operand i.tree (alike.alike-Cat S here.names p.exprs _ (h.same ∙ shown-readings ws))
+      (h.width ∙ sym (shown-widths ws)) refl (h.constant ∙ shown-constant ws)
+      (λ k m. good-by S y (FlatExpr-F.Cat (map (judge S) p.exprs)) (judge-Cat S p.exprs) m (sym (judged-good p.exprs) ∙ h.good k)) in
       let fits : is_width (wide n) ≡ true = operand-width S n ok f.operand o in
       record {
         right = record {
@@ -478,12 +478,12 @@ module _ (S : Signals) (here : Here) (joined : Bool) (n : Walk) (num : Number) (
     rep-right f b i =
         let y : FlatExpr = e.Rep num.word.value p.exprs in
         let o : HasOperand S top ok f.operand =
-            has-operand S y top ok _ _ _ f.operand i.tree
-            (alike.alike-Rep S here.names num.word.value p.exprs n.shown.reading _ (record { value = sym h.value; constant = h.constant; reads = h.reads })
-            (g.same ∙ shown-readings S here joined ws))
-            (sym rep-wide) refl (g.constant ∙ (shown-constant S here joined ws ∙ sym (ap (λ k. k && list_all (λ r. r.constant) (map (λ r. r.reading) (map (λ w. w.shown) ws))) h.constant)))
-            (λ k m. good-by S y (FlatExpr-F.Rep num.word.value (map (judge S) p.exprs)) (judge-Rep S num.word.value p.exprs) m
-            (sym (judged-good S here joined p.exprs) ∙ g.good k)) in
+        has-operand S y top ok _ _ _ f.operand i.tree
+        (alike.alike-Rep S here.names num.word.value p.exprs n.shown.reading _ (record { value = sym h.value; constant = h.constant; reads = h.reads })
+        (g.same ∙ shown-readings S here joined ws))
+        (sym rep-wide) refl (g.constant ∙ (shown-constant S here joined ws ∙ sym (ap (λ k. k && list_all (λ r. r.constant) (map (λ r. r.reading) (map (λ w. w.shown) ws))) h.constant)))
+        (λ k m. good-by S y (FlatExpr-F.Rep num.word.value (map (judge S) p.exprs)) (judge-Rep S num.word.value p.exprs) m
+        (sym (judged-good S here joined p.exprs) ∙ g.good k)) in
         let fits : is_width (wide top) ≡ true = operand-width S top ok f.operand o in
         let positive : is_positive (number n.shown) ≡ true = sym is-positive ∙ b in
         record {

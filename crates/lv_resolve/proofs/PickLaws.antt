@@ -94,9 +94,9 @@ and-one false = refl
 module _ (here : Here) (n : Walk) (num : Number) (h : IsFixed here n num) where
   number-of : number n.shown ≡ (if num.signed then signed_of num.word.width num.word.value else pos num.word.value)
   number-of = sym (
-    ap (λ k. if num.signed then signed_of num.word.width k else pos k) h.value ∙
-    (ap (λ k. if num.signed then signed_of k (own_value n.shown.reading.meaning nowhere) else pos (own_value n.shown.reading.meaning nowhere)) h.width ∙
-    ap (λ b. if b then signed_of n.shown.reading.meaning.width (own_value n.shown.reading.meaning nowhere) else pos (own_value n.shown.reading.meaning nowhere)) h.signed))
+      ap (λ k. if num.signed then signed_of num.word.width k else pos k) h.value ∙
+      (ap (λ k. if num.signed then signed_of k (own_value n.shown.reading.meaning nowhere) else pos (own_value n.shown.reading.meaning nowhere)) h.width ∙
+      ap (λ b. if b then signed_of n.shown.reading.meaning.width (own_value n.shown.reading.meaning nowhere) else pos (own_value n.shown.reading.meaning nowhere)) h.signed))
 
   low-number : is_low num ≡ true → number n.shown ≡ pos num.word.value
   low-number b = number-of ∙ low-signed num.signed num.word.width num.word.value b

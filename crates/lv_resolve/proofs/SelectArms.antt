@@ -102,13 +102,19 @@ module _ (S : Signals) (here : Here) (h : Head) (at : ℕ) where
 
   pub part-first : (s : Select) (a b c : Expr) (y : ResolveError) → s ≡ select.Part a b → c ≡ a → Told here (fixed_sites (walk here.names c)) y → PickOf s (Err y)
   part-first s a b c y e i g = arm s (select.Part a b) (Select-F.Part (walk here.names a) (walk here.names b)) true (Err y) e (select-Part here.names a b) (ok-Part a b)
-      (record { right = tt; wrong = inl (told-within here _ _ y (within-first (fixed_sites (walk here.names a)) (fixed_sites (walk here.names b)))
-      (subst (λ u. Told here (fixed_sites (walk here.names u)) y) i g)) })
+      (record {
+        right = tt;
+        wrong = inl (told-within here _ _ y (within-first (fixed_sites (walk here.names a)) (fixed_sites (walk here.names b)))
+            (subst (λ u. Told here (fixed_sites (walk here.names u)) y) i g));
+      })
 
   pub part-second : (s : Select) (a b d : Expr) (y : ResolveError) → s ≡ select.Part a b → d ≡ b → Told here (fixed_sites (walk here.names d)) y → PickOf s (Err y)
   part-second s a b d y e i g = arm s (select.Part a b) (Select-F.Part (walk here.names a) (walk here.names b)) true (Err y) e (select-Part here.names a b) (ok-Part a b)
-      (record { right = tt; wrong = inl (told-within here _ _ y (within-second (fixed_sites (walk here.names a)) (fixed_sites (walk here.names b)))
-      (subst (λ u. Told here (fixed_sites (walk here.names u)) y) i g)) })
+      (record {
+        right = tt;
+        wrong = inl (told-within here _ _ y (within-second (fixed_sites (walk here.names a)) (fixed_sites (walk here.names b)))
+            (subst (λ u. Told here (fixed_sites (walk here.names u)) y) i g));
+      })
 
   pub at-Up : (s : Select) (a b d : Expr) (n : Number) (i : Form) (r : Result Pick ResolveError) → s ≡ select.Up a b → d ≡ b →
       HasForm S here (operand_sites true (walk here.names a)) 0 (walk here.names a) (has_operands a) i → IsFixed here (walk here.names d) n → IfOk r (IsRun true i n) →
@@ -128,8 +134,11 @@ module _ (S : Signals) (here : Here) (h : Head) (at : ℕ) where
 
   pub up-second : (s : Select) (a b d : Expr) (y : ResolveError) → s ≡ select.Up a b → d ≡ b → Told here (fixed_sites (walk here.names d)) y → PickOf s (Err y)
   up-second s a b d y e i g = arm s (select.Up a b) (Select-F.Up (walk here.names a) (walk here.names b)) (has_operands a) (Err y) e (select-Up here.names a b) (ok-Up a b)
-      (record { right = tt; wrong = inl (told-within here _ _ y (within-second (operand_sites true (walk here.names a) 0 true) (fixed_sites (walk here.names b)))
-      (subst (λ u. Told here (fixed_sites (walk here.names u)) y) i g)) })
+      (record {
+        right = tt;
+        wrong = inl (told-within here _ _ y (within-second (operand_sites true (walk here.names a) 0 true) (fixed_sites (walk here.names b)))
+            (subst (λ u. Told here (fixed_sites (walk here.names u)) y) i g));
+      })
 
   pub down-first : (s : Select) (a b : Expr) (y : ResolveError) → s ≡ select.Down a b → HasNoForm here (operand_sites true (walk here.names a)) y → PickOf s (Err y)
   down-first s a b y e g = arm s (select.Down a b) (Select-F.Down (walk here.names a) (walk here.names b)) (has_operands a) (Err y) e (select-Down here.names a b) (ok-Down a b)
@@ -137,8 +146,11 @@ module _ (S : Signals) (here : Here) (h : Head) (at : ℕ) where
 
   pub down-second : (s : Select) (a b d : Expr) (y : ResolveError) → s ≡ select.Down a b → d ≡ b → Told here (fixed_sites (walk here.names d)) y → PickOf s (Err y)
   down-second s a b d y e i g = arm s (select.Down a b) (Select-F.Down (walk here.names a) (walk here.names b)) (has_operands a) (Err y) e (select-Down here.names a b) (ok-Down a b)
-      (record { right = tt; wrong = inl (told-within here _ _ y (within-second (operand_sites true (walk here.names a) 0 true) (fixed_sites (walk here.names b)))
-      (subst (λ u. Told here (fixed_sites (walk here.names u)) y) i g)) })
+      (record {
+        right = tt;
+        wrong = inl (told-within here _ _ y (within-second (operand_sites true (walk here.names a) 0 true) (fixed_sites (walk here.names b)))
+            (subst (λ u. Told here (fixed_sites (walk here.names u)) y) i g));
+      })
 
 -- ---- all selects of a name
 

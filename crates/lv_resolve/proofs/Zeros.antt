@@ -148,7 +148,7 @@ module _ (here : Here) (W : ℕ) (T : Bool) (d : Divisor) where
   reached z V e h k =
       let a : (walk here.names d.expr).shown.reading.meaning.width ≤ W = h.narrow in
       let b : (walk here.names d.expr).shown.reading.meaning.width ≡ own_width here.names z =
-          ap (λ r. r.meaning.width) (walk-reads here.names d.expr) ∙ ap (own_width here.names) (sym e) in
+      ap (λ r. r.meaning.width) (walk-reads here.names d.expr) ∙ ap (own_width here.names) (sym e) in
       omega (arith, a, b, k)
 
   pub value-zero : (z : Expr) (V : ℕ) (w : ConstError) (q : ResolveError) → z ≡ d.expr → IsDivisor here.names W d → V ≡ max (own_width here.names z) W →
@@ -188,7 +188,7 @@ module _ (here : Here) (W : ℕ) (T : Bool) (d : Divisor) where
       let a : V ≡ W = reached z V e h m in
       let b : ((walk here.names d.expr).shown.reading.meaning.value W T nowhere == 0) ≡ false = ap (λ n. n == 0) (sym (value-there z V word e a v)) ∙ k in
       let c : flat_map zero_divisor inside ≡ [] = subst (λ n. flat_map zero_divisor ((walk here.names d.expr).sites Value None n T) ≡ []) a
-          (subst (λ u. flat_map zero_divisor ((walk here.names u).sites Value None V T) ≡ []) e (v.divides None).none) in
+      (subst (λ u. flat_map zero_divisor ((walk here.names u).sites Value None V T) ≡ []) e (v.divides None).none) in
       let m : zeros_at here.names W T d ≡ [] = rw b c in record {
         right = ap (λ zs. zs ++ []) m;
         wrong = tt;

@@ -35,7 +35,8 @@ pub fn form<B: Bindings>(
     joined: bool,
 ) -> Result<Form, ResolveError>
     ensures { Anywhere (declared_all place.now.signals.now) (B.numbers place.now.bindings.now) place.now.all.now place.now.early.now (λ here.
-        FormAnswer (declared_all place.now.signals.now) here (read_sites joined (walk here.names expr.now)) (wide (walk here.names expr.now)) (walk here.names expr.now) (has_operands expr.now) result) }
+        FormAnswer (declared_all place.now.signals.now) here (read_sites joined (walk here.names expr.now)) (wide (walk here.names expr.now))
+        (walk here.names expr.now) (has_operands expr.now) result) }
 {
     match expr {
         Expr::Lit(literal) => literal_form(alloc, literal, joined),
@@ -102,7 +103,8 @@ fn operand<B: Bindings>(
     full: bool,
 ) -> Result<Form, ResolveError>
     ensures { Anywhere (declared_all place.now.signals.now) (B.numbers place.now.bindings.now) place.now.all.now place.now.early.now (λ here.
-        FormAnswer (declared_all place.now.signals.now) here (operand_sites full (walk here.names expr.now)) (operand_least full (walk here.names expr.now)) (walk here.names expr.now) (has_operands expr.now) result) }
+        FormAnswer (declared_all place.now.signals.now) here (operand_sites full (walk here.names expr.now)) (operand_least full (walk here.names expr.now))
+        (walk here.names expr.now) (has_operands expr.now) result) }
 {
     match form(alloc, place, expr.get(), false) {
         Err(error) => Err(error),
@@ -118,13 +120,10 @@ fn operand<B: Bindings>(
 
 /// An operand of a concatenation.
 #[cycle(forms)]
-fn member<B: Bindings>(
-    alloc: Global,
-    place: &Place<B>,
-    expr: &Expr,
-) -> Result<Form, ResolveError>
+fn member<B: Bindings>(alloc: Global, place: &Place<B>, expr: &Expr) -> Result<Form, ResolveError>
     ensures { Anywhere (declared_all place.now.signals.now) (B.numbers place.now.bindings.now) place.now.all.now place.now.early.now (λ here.
-        FormAnswer (declared_all place.now.signals.now) here (member_sites (walk here.names expr.now)) 0 (walk here.names expr.now) (has_operands expr.now) result) }
+        FormAnswer (declared_all place.now.signals.now) here (member_sites (walk here.names expr.now)) 0 (walk here.names expr.now)
+        (has_operands expr.now) result) }
 {
     match form(alloc, place, expr, true) {
         Err(error) => Err(error),
@@ -142,7 +141,8 @@ fn both<B: Bindings>(
 ) -> Result<Pair, ResolveError>
     ensures { Anywhere (declared_all place.now.signals.now) (B.numbers place.now.bindings.now) place.now.all.now place.now.early.now (λ here.
         PairAnswer (declared_all place.now.signals.now) here (both_sites (walk here.names a.now) (walk here.names b.now))
-        (both_width (walk here.names a.now) (walk here.names b.now)) (walk here.names a.now) (walk here.names b.now) (has_operands a.now) (has_operands b.now) result) }
+        (both_width (walk here.names a.now) (walk here.names b.now)) (walk here.names a.now) (walk here.names b.now) (has_operands a.now)
+        (has_operands b.now) result) }
 {
     match operand(alloc, place, a, false) {
         Err(error) => Err(error),
@@ -164,7 +164,8 @@ fn operands<B: Bindings>(
 ) -> Result<Pair, ResolveError>
     ensures { Anywhere (declared_all place.now.signals.now) (B.numbers place.now.bindings.now) place.now.all.now place.now.early.now (λ here.
         PairAnswer (declared_all place.now.signals.now) here (pair_sites op (walk here.names a.now) (walk here.names b.now))
-        (pair_least op (walk here.names a.now) (walk here.names b.now)) (walk here.names a.now) (walk here.names b.now) (has_operands a.now) (has_operands b.now) result) }
+        (pair_least op (walk here.names a.now) (walk here.names b.now)) (walk here.names a.now) (walk here.names b.now) (has_operands a.now)
+        (has_operands b.now) result) }
 {
     match operand(alloc, place, a, is_logical(op)) {
         Err(error) => Err(error),
@@ -323,7 +324,8 @@ fn pick<B: Bindings>(
     select: &Select,
 ) -> Result<Pick, ResolveError>
     ensures { Anywhere (declared_all place.now.signals.now) (B.numbers place.now.bindings.now) place.now.all.now place.now.early.now (λ here.
-        PickAnswer (declared_all place.now.signals.now) here (head_bounds head.now) (has_select_operands select.now) (walk_select here.names select.now) at result) }
+        PickAnswer (declared_all place.now.signals.now) here (head_bounds head.now) (has_select_operands select.now)
+        (walk_select here.names select.now) at result) }
 {
     match select {
         Select::Bit(a) => match operand(alloc, place, a, true) {

@@ -93,7 +93,12 @@ pub fn pair(a: Form, b: Form) -> Result<Pair, ResolveError>
 }
 
 /// Notes with one more divisor.
-fn with_divisor(alloc: Global, notes: Notes, divisor: &Expr, place: u64) -> Result<Notes, ResolveError>
+fn with_divisor(
+    alloc: Global,
+    notes: Notes,
+    divisor: &Expr,
+    place: u64,
+) -> Result<Notes, ResolveError>
     ensures ok { IfOk result (λ n. IsNoted n notes.clocks (notes.divisors ++ record { expr = divisor.now; place = place } ∷ [])) }
     ensures err { IfErr result (λ x. x ≡ NoMemory) }
 {

@@ -26,12 +26,7 @@ fn reached(all: &Consts, found: Form, width: u32) -> Result<Resolved, ResolveErr
 {
     let (operand, notes) = found.into_parts();
     let width = width.max(operand.width);
-    match close(
-        all,
-        notes.divisors.as_slice(),
-        width,
-        operand.signed,
-    ) {
+    match close(all, notes.divisors.as_slice(), width, operand.signed) {
         Err(error) => Err(error),
         Ok(()) => {
             let (clocks, divisors) = notes.into_parts();

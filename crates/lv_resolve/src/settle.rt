@@ -58,14 +58,10 @@ fn both_signed(a: bool, b: bool) -> bool
 }
 
 /// The operands of a comparison are taken at the greater of their widths, and signed only where both are.
-pub fn compared(
-    alloc: Global,
-    all: &Consts,
-    op: Op,
-    found: Pair,
-) -> Result<Pair, ResolveError>
+pub fn compared(alloc: Global, all: &Consts, op: Op, found: Pair) -> Result<Pair, ResolveError>
     ensures { (S : Signals) (here : Here) (a b : Walk) (oka okb : Bool) → AreDeclared (names_of all.now) (with_all here) →
-        HasPair S here (first_sites op a b) (first_least op a b) a b oka okb found → PairAnswer S here (pair_sites op a b) (pair_least op a b) a b oka okb result }
+        HasPair S here (first_sites op a b) (first_least op a b) a b oka okb found → PairAnswer S here (pair_sites op a b)
+        (pair_least op a b) a b oka okb result }
 {
     if is_kept(op) {
         return Ok(found);

@@ -1,0 +1,9 @@
+pub mod Aiming
+pub mod GoodTargets
+pub mod Keeping
+pub mod Merging
+pub mod Putting
+pub mod Rewriting
+pub mod Runnings
+pub mod Spans
+pub mod Storing

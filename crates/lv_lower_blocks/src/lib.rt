@@ -1,0 +1,11 @@
+//! Targets and statements of a flat source over tables of nodes.
+#![tactic(auto)]
+
+mod aims;
+mod assigns;
+mod blocks;
+mod merge;
+mod puts;
+
+pub use assigns::{assign, store};
+pub use blocks::execute;

@@ -34,7 +34,7 @@ pub taken : (n : ℕ) (xs ys : List ℕ) → n ≡ length xs → take n (xs ++ y
 taken n [] ys e = ap (λ k. take k ys) e ∙ refl
 taken n (x ∷ xs) ys e = ap (λ k. take k ((x ∷ xs) ++ ys)) e ∙ ap (λ zs. x ∷ zs) (taken (length xs) xs ys refl)
 
-if-out : (u : Bool) (f : State → Valuation) (p q : State) → (if u then f p else f q) ≡ f (if u then p else q)
+pub if-out : (u : Bool) (f : State → Valuation) (p q : State) → (if u then f p else f q) ≡ f (if u then p else q)
 if-out true f p q = refl
 if-out false f p q = refl
 
@@ -76,6 +76,11 @@ module _ {cells : List Cell} where
     shows = λ w s o x. subst (λ (y : State). Shows w cells b y.valuation) (i s) (r.shows w s o x);
     leaves = λ w s u o x l y. subst (λ (z : State). Shows w cells e (applied u z.pending)) (i s) (r.leaves w s u o x l y);
   }
+
+  -- the same tables
+  pub runs-written : {old new : Net} {now done a d x y : List ℕ} {g : State → State} → Runs old new cells now done a d g → x ≡ a → y ≡ d → Runs old new cells now done x y g
+  runs-written {old} {new} {now} {done} {a} {d} {x} {y} {g} r e f =
+      subst (λ (z : List ℕ). Runs old new cells now done z y g) (sym e) (subst (λ (z : List ℕ). Runs old new cells now done a z g) (sym f) r)
 
   pub runs-then : {old mid new : Net} {a b c d e f : List ℕ} {g h : State → State} → Runs old mid cells a d b e g → Runs mid new cells b e c f h → Runs old new cells a d c f (λ s. h (g s))
   runs-then {old} {mid} {new} {g = g} r q = record {

@@ -2,7 +2,8 @@
 use Rattle.std.specs.Prelude.{◌≡◌, ℕ, ◌<◌, ◌≤◌, ◌==◌, if◌then◌else◌, List, length, slice_index}
 use Rattle.lv_netlist.specs.Net.{Net, width_at}
 use Rattle.lv_flat.specs.Cells.{Cell}
-use Rattle.lv_values.specs.Worlds.{World, Obeys, Grows}
+use Rattle.lv_values.specs.declared.value.Value.{Value}
+use Rattle.lv_values.specs.Worlds.{World, Obeys, Grows, number}
 use Rattle.lv_lower_exprs.specs.Tables.{IsTable, value_at}
 
 -- the graph has become longer, and the nodes from lo to below hi are others of the same widths with these values
@@ -40,3 +41,11 @@ Merges old new c a b t = Rewrites old new a t 0 (length a) (chosen_at c a b)
 -- an empty one stands for none
 pub record MayBeTable (net : Net) (cells : List Cell) (table : List ℕ) : Type 0 where
   pub is : 1 ≤ length table → IsTable net cells table
+
+-- a table is that of a choice: as a where t isn't 0, else as b
+pub record Picks (old new : Net) (t : Value) (a b c : List ℕ) : Type 0 where
+  pub grows : Grows old new
+  pub count : length c ≡ length a
+  pub within : (i : ℕ) → i < length a → slice_index c i < length new.nodes
+  pub widths : (i : ℕ) → i < length a → width_at new.nodes (slice_index c i) ≡ width_at old.nodes (slice_index a i)
+  pub is : (w : World) → Obeys new w → (i : ℕ) → i < length a → value_at w (slice_index c i) ≡ (if number w t == 0 then value_at w (slice_index b i) else value_at w (slice_index a i))

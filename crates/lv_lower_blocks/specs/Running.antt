@@ -2,7 +2,7 @@
 use Rattle.std.specs.Prelude.{◌≡◌, ℕ, ◌≤◌, List, [], ◌∷◌, length, Option, Some, None, Bool, true}
 use Rattle.lv_netlist.specs.Net.{Net}
 use Rattle.lv_source.specs.Names.{Valuation}
-use Rattle.lv_source.specs.Effect.{Piece, State, Update, Arm, places, write_all, now_of, later_of, applied}
+use Rattle.lv_source.specs.Effect.{Piece, State, Update, Arm, places, write_all, now_of, later_of, applied, left_of}
 use Rattle.lv_source.specs.Meaning.{Reading}
 use Rattle.lv_flat.specs.declared.part.FlatBody.TheVariants.{Assign}
 use Rattle.lv_flat.specs.declared.expr.FlatExpr.{FlatExpr}
@@ -13,7 +13,7 @@ use Rattle.lv_flat.specs.Cells.{Cell}
 use Rattle.lv_flat.specs.Signals.{Signals}
 use Rattle.lv_flat.specs.Judged.{reading}
 use Rattle.lv_flat.specs.Trees.{fold_stmt}
-use Rattle.lv_flat.specs.Executing.{Effect, pieces, arm_step, effect_step}
+use Rattle.lv_flat.specs.Executing.{Effect, pieces, arm_step, effect_step, executes}
 use Rattle.lv_flat.specs.FlatViews.{after}
 use Rattle.lv_flat.specs.Good.{good_stmt}
 use Rattle.lv_values.specs.declared.value.Value.{Value}
@@ -81,3 +81,15 @@ keeps_now S target e s = kept_now (pieces S target) (reading S e) s
 
 abbrev pub keeps_later : Signals → FlatTarget → FlatExpr → State → State
 keeps_later S target e s = later_of (pieces S target) (reading S e) s
+
+-- a table that showed a valuation shows what the combinational block leaves of it
+pub record Settles (old new : Net) (S : Signals) (cells : List Cell) (before after' : List ℕ) (s : FlatStmt) : Type 0 where
+  pub grows : Grows old new
+  pub table : IsTable new cells after'
+  pub is : (w : World) (v : Valuation) → Obeys new w → Shows w cells before v → Shows w cells after' (left_of (executes S s) v)
+
+-- `done` showed any valuation, and shows what the writes of the block leave of it where `now` shows what the block begins with
+pub record Clocks (old new : Net) (S : Signals) (cells : List Cell) (now done done' : List ℕ) (s : FlatStmt) : Type 0 where
+  pub grows : Grows old new
+  pub table : IsTable new cells done'
+  pub is : (w : World) (v u : Valuation) → Obeys new w → Shows w cells now v → Shows w cells done u → Shows w cells done' (applied u (writes_from S s v))

@@ -1,4 +1,4 @@
-ghost use Rattle.std.specs.Prelude.{◌≡◌, Bool, true, map, OnOk};
+ghost use Rattle.std.specs.Prelude.{◌≡◌, ◌≤◌, Bool, true, map, length, IfOk, OnOk};
 ghost use Rattle.std.specs.List.{list_all};
 ghost use Rattle.lv_flat.specs.Signals.{declared_all};
 ghost use Rattle.lv_flat.specs.Cells.{all_cells};
@@ -7,15 +7,17 @@ ghost use Rattle.lv_flat.specs.Good.{good_stmt, good_target};
 ghost use Rattle.lv_lower_exprs.specs.Tables.{IsTable, AreFirsts};
 ghost use Rattle.lv_values.specs.Worlds.{IsIn, width_of};
 ghost use Rattle.lv_lower_blocks.specs.Aimed.{AreAims, aims_width, MayWrite};
+ghost use Rattle.lv_lower_blocks.specs.Cased.{common_width, good_arm_of, arms_read, last_default, ArmsWithin, ArmsRun, arms_do};
 ghost use Rattle.lv_lower_blocks.specs.Rewritten.{MayBeTable};
 ghost use Rattle.lv_lower_blocks.specs.Running.{Runs, good_or, keeps_writes, keeps_or, keeps_all, keeps_now, keeps_later};
 
 use crate::aims::Aim;
 use crate::assigns::prepare;
-use crate::merge::{copy, merge};
-use crate::puts::write;
+use crate::cases::{Common, common_case, default_at, fits_one};
+use crate::merge::{Tables, choose_tables, copy, fill, merge};
+use crate::puts::{is_zero, write};
 use lv_bits::NoMemory;
-use lv_flat::{FlatExpr, FlatStmt, FlatTarget, Signal};
+use lv_flat::{FlatArm, FlatExpr, FlatStmt, FlatTarget, Signal};
 use lv_lower_exprs::{own, value};
 use lv_netlist::Builder;
 use lv_values::Value;
@@ -81,8 +83,130 @@ pub fn execute(
         FlatStmt::Later(target, e, _) => {
             assign_later(alloc, b, signals, first, now, done, target, e.get())
         }
-        _ => Err(NoMemory),
+        FlatStmt::Case(wild, x, arms) => {
+            let e = x.get();
+            let arms = arms.as_slice();
+            let c = common_case(signals, e, arms);
+            let selector = value(
+                alloc, b, signals, first, now, e, c.width, c.signed,
+            )?;
+            let start = base(alloc, b, signals, first, now, done, arms)?;
+            let tables = choose_arm(
+                alloc, b, signals, first, now, done, *wild, &c, &selector, arms, start,
+            )?;
+            fill(now, tables.now.as_slice());
+            fill(done, tables.done.as_slice());
+            Ok(())
+        }
     }
+}
+
+/// The tables of the last arm without labels, or as they are.
+#[cycle(executing)]
+fn base(
+    alloc: Global,
+    b: &mut Builder,
+    signals: &[Signal],
+    first: &[u64],
+    now: &[u64],
+    done: &[u64],
+    arms: &[FlatArm],
+) -> Result<Tables, NoMemory>
+    requires good { list_all (good_arm_of (declared_all signals.now)) arms.now ≡ true }
+    requires first { AreFirsts (declared_all signals.now) first.now }
+    requires now { IsTable b.old (all_cells (declared_all signals.now)) now.now }
+    requires done { MayBeTable b.old (all_cells (declared_all signals.now)) done.now }
+    ensures { IfOk result (λ r. Runs b.old b.new (all_cells (declared_all signals.now)) now.now done.now r.now.items r.done.items (λ st. last_default (arms_read (declared_all signals.now) arms.now) (λ s. s) st)) }
+{
+    let mut a_now = copy(alloc, now)?;
+    let mut a_done = copy(alloc, done)?;
+    let at = default_at(arms);
+    if at == arms.len() as u64 {
+        return Ok(Tables {
+            now: a_now,
+            done: a_done,
+        });
+    }
+    let a = &arms[at as usize];
+    execute(
+        alloc,
+        b,
+        signals,
+        first,
+        a_now.as_mut_slice(),
+        a_done.as_mut_slice(),
+        &a.body,
+    )?;
+    Ok(Tables {
+        now: a_now,
+        done: a_done,
+    })
+}
+
+/// The tables of the first arm with a label that fits, or those given.
+#[cycle(executing)]
+fn choose_arm(
+    alloc: Global,
+    b: &mut Builder,
+    signals: &[Signal],
+    first: &[u64],
+    now: &[u64],
+    done: &[u64],
+    wild: bool,
+    c: &Common,
+    selector: &Value,
+    arms: &[FlatArm],
+    base: Tables,
+) -> Result<Tables, NoMemory>
+    requires good { list_all (good_arm_of (declared_all signals.now)) arms.now ≡ true }
+    requires within { ArmsWithin (declared_all signals.now) arms.now c.now.width }
+    requires most { c.now.width ≤ 128 }
+    requires selector_in { IsIn b.old selector.now }
+    requires width { width_of selector.now ≡ c.now.width }
+    requires first { AreFirsts (declared_all signals.now) first.now }
+    requires now { IsTable b.old (all_cells (declared_all signals.now)) now.now }
+    requires done { MayBeTable b.old (all_cells (declared_all signals.now)) done.now }
+    requires base_now { IsTable b.old (all_cells (declared_all signals.now)) base.now.items }
+    requires base_done { MayBeTable b.old (all_cells (declared_all signals.now)) base.done.items }
+    requires count { length base.done.items ≡ length done.now }
+    ensures { IfOk result (λ r. ArmsRun b.old b.new (all_cells (declared_all signals.now)) now.now done.now base.now.items base.done.items r.now.items r.done.items selector.now (arms_do (declared_all signals.now) wild (common_width c.now) arms.now)) }
+{
+    let mut tables = base;
+    let mut i = arms.len();
+    while i > 0 {
+        i -= 1;
+        let a = &arms[i];
+        let t = fits_one(
+            alloc,
+            b,
+            signals,
+            first,
+            now,
+            wild,
+            c,
+            selector,
+            a.labels.as_slice(),
+        )?;
+        if !is_zero(&t) {
+            let mut a_now = copy(alloc, now)?;
+            let mut a_done = copy(alloc, done)?;
+            execute(
+                alloc,
+                b,
+                signals,
+                first,
+                a_now.as_mut_slice(),
+                a_done.as_mut_slice(),
+                &a.body,
+            )?;
+            let arm = Tables {
+                now: a_now,
+                done: a_done,
+            };
+            tables = choose_tables(b, t, arm, tables)?;
+        }
+    }
+    Ok(tables)
 }
 
 #[cycle(executing)]

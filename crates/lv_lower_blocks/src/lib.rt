@@ -4,8 +4,11 @@
 mod aims;
 mod assigns;
 mod blocks;
+mod bodies;
+mod cases;
 mod merge;
 mod puts;
 
 pub use assigns::{assign, store};
 pub use blocks::execute;
+pub use bodies::{clocked, combinational};

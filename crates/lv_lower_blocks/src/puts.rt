@@ -36,7 +36,7 @@ fn equals(b: &mut Builder, spot: &Spot, n: u64) -> Result<Value, NoMemory>
 }
 
 /// Whether the value is known to be 0.
-fn is_zero(x: &Value) -> bool
+pub(crate) fn is_zero(x: &Value) -> bool
     ensures { IsTrue result → IsZero x.now }
 {
     match x {

@@ -1,10 +1,9 @@
 -- What the five queries say of a certificate.
-use Rattle.std.proofs.Common.{◌≡◌, ℕ, List, [], subst, sym}
+use Rattle.std.proofs.Common.{◌≡◌, ℕ, List, [], subst}
 use Rattle.lv_cert.specs.declared.cert.Cert.{Cert}
 use Rattle.lv_clauses.specs.Sets.{SetValue}
 use Rattle.lv_clauses.specs.Derivations.{Step as Line}
 use Rattle.lv_clauses.specs.declared.line.Spent.{Spent}
-use Rattle.lv_check.specs.Answer.{IsFailure}
 use Rattle.lv_model.specs.Machine.{IsInductive, Implies}
 use Rattle.lv_model.proofs.Queries.{unmet_base, unmet_step}
 use Rattle.lv_product.specs.declared.task.Task.{Task}
@@ -12,11 +11,9 @@ use Rattle.lv_product.specs.declared.task.Pair.{Pair}
 use Rattle.lv_product.specs.declared.task.Query.{Query}
 use Rattle.lv_product.specs.declared.task.Query.TheVariants.{Initial, Allowed, Base, Step, Imply}
 use Rattle.lv_product.specs.Queries.{task_machine, FitsKept}
-use Rattle.lv_learner.specs.declared.judge.Judged.{Judged}
-use Rattle.lv_learner.specs.declared.judge.Judged.TheVariants as j
 use Rattle.lv_learner.specs.Meeting.{CanBeMet, Meets}
 use Rattle.lv_learner.specs.Answers.{IsPossible, IsRefutedFor, IsSpentFor}
-use Rattle.lv_learner.specs.Confirming.{IsYes, IsNo, IsOpening, IsJudged, IsShortOf, IsCause}
+use Rattle.lv_learner.specs.Confirming.{IsYes, IsNo, IsOpening, IsShortOf, IsCause}
 use Rattle.lv_learner.proofs.Starting.{initial_stands, allowed_stands}
 use Rattle.lv_learner.proofs.Concluding.{inductive, implies, safe, can, unimplied}
 

@@ -8,3 +8,4 @@ pub mod Accepting
 pub mod Judging
 pub mod Deciding
 pub mod Testing
+pub mod Writing

@@ -1,5 +1,5 @@
 -- What the tests of a certificate's states and input say, at one input and in one state.
-use Rattle.std.proofs.Common.{◌≡◌, ◌≢◌, ℕ, zero, suc, ◌+◌, ◌-◌, ◌%◌, ◌^◌, ◌<◌, ◌&&◌, Bool, true, false, List, [], ◌∷◌, ◌++◌, length, take, map, get_or, slice_index, refl, sym, ◌∙◌, ap, subst, arith, inl, inr}
+use Rattle.std.proofs.Common.{◌≡◌, ◌≢◌, ℕ, zero, suc, ◌+◌, ◌%◌, ◌^◌, ◌<◌, ◌&&◌, Bool, true, false, List, [], ◌∷◌, ◌++◌, length, take, get_or, slice_index, refl, sym, ◌∙◌, ap, subst, arith, inl, inr}
 use Rattle.std.specs.Prelude.{All, Option, Some, None}
 use Rattle.std.proofs.lemmas.Bool.{cases_eq}
 use Rattle.std.proofs.lemmas.List.Elements.{All-map}
@@ -16,7 +16,7 @@ use Rattle.lv_product.specs.Values.{value_at, is_met, is_same}
 use Rattle.lv_product.specs.declared.task.Query.TheVariants.{Initial, Allowed}
 use Rattle.lv_learner.specs.Meeting.{CanBeMet}
 use Rattle.lv_learner.specs.Cuts.{IsStateOf, IsInputOf, cut, state_of, input_of, cycle}
-use Rattle.lv_learner.specs.Confirming.{FitsCert, IsSameNode, IsOnNode, StatesMeet, InputMeets, IsFirstUnmet, IsFirstFailing, first_of, IsStatesTest, IsInputTest}
+use Rattle.lv_learner.specs.Confirming.{FitsCert, IsSameNode, IsOnNode, InputMeets, IsFirstFailing, first_of, IsStatesTest, IsInputTest}
 use Rattle.lv_learner.proofs.Words.{state_fits, input_fits}
 
 -- ---- the loops

@@ -5,7 +5,7 @@ ghost use Rattle.lv_product.specs.Values.{is_met, is_same};
 ghost use Rattle.lv_learner.specs.Cuts.{cut};
 ghost use Rattle.lv_learner.specs.Confirming.{FitsCert, IsFirstFailing, first_of, IsStatesTest, IsInputTest};
 
-use crate::dropping::{is_equal, is_on, settled};
+use crate::moment::{is_equal, is_on, settled};
 use lv_bits::{NoMemory, Word};
 use lv_cert::Cert;
 use lv_netlist::Graph;

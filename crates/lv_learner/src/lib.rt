@@ -8,10 +8,13 @@ mod confirming;
 mod dropping;
 mod given;
 mod judge;
+mod laws;
 mod learner;
+mod moment;
 mod rounds;
 mod start;
 
 pub use answers::{Confirmed, Learnt, Sets};
 pub use confirming::confirm;
+pub use laws::derivations_can_be_written;
 pub use learner::learn;

@@ -1,4 +1,4 @@
-use Rattle.std.proofs.Common.{◌≡◌, ℕ, List, [], subst}
+use Rattle.std.proofs.Common.{ℕ, List, [], subst}
 use Rattle.lv_product.specs.declared.task.Task.{Task}
 use Rattle.lv_product.specs.declared.task.Query.TheVariants.{Initial, Allowed}
 use Rattle.lv_learner.specs.declared.start.Opening.{Opening}

@@ -1,4 +1,4 @@
-use Rattle.std.proofs.Common.{◌≡◌, ℕ, List, subst}
+use Rattle.std.proofs.Common.{ℕ, List, subst}
 use Rattle.lv_product.specs.declared.task.Task.{Task}
 use Rattle.lv_product.specs.declared.task.Query.TheVariants.{Base, Step, Imply}
 use Rattle.lv_learner.specs.declared.judge.Judged.{Judged}

@@ -1,4 +1,4 @@
-use Rattle.std.proofs.Common.{◌≡◌, ℕ, List, subst}
+use Rattle.std.proofs.Common.{ℕ, List, subst}
 use Rattle.lv_product.specs.declared.task.Task.{Task}
 use Rattle.lv_learner.specs.declared.ask.Found.{Found}
 use Rattle.lv_learner.specs.Answers.{IsFound}

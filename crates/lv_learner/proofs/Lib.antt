@@ -5,3 +5,7 @@ pub mod Words
 pub mod Starting
 pub mod Concluding
 pub mod Accepting
+pub mod Judging
+pub mod Deciding
+pub mod Testing
+pub mod Writing

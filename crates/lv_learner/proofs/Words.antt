@@ -9,7 +9,7 @@ use Rattle.lv_bits.specs.Words.{Bits}
 use Rattle.lv_bits.specs.Digits.{widths_of}
 use Rattle.lv_bits.proofs.Digits.{HoldWords}
 use Rattle.lv_blast.proofs.Words.{hold_from, widths_are}
-use Rattle.lv_netlist.specs.Net.{Net}
+use Rattle.lv_netlist.specs.Net.{Net, register_width, input_width}
 use Rattle.lv_netlist.specs.Run.{bits_at}
 use Rattle.lv_netlist.specs.Fits.{AreWords}
 use Rattle.lv_netlist.specs.Queries.{register_widths, port_widths}
@@ -77,3 +77,15 @@ input_fits net vs e =
       },
       cut_words (port_widths net) vs,
     )
+
+pub register_width_is : (net : Net) (k : ℕ) → register_width net k ≡ get_or (register_widths net) k 0
+register_width_is net k = sym (get_or-map (λ (r : List ℕ × Register). r.1.width) net.registers k ([], record { width = 0; next = None }))
+
+pub input_width_is : (net : Net) (k : ℕ) → input_width net k ≡ get_or (port_widths net) k 0
+input_width_is net k = sym (get_or-map (λ (p : List ℕ × ℕ). p.1) net.inputs k ([], 0))
+
+pub register_count : (net : Net) → length (register_widths net) ≡ length net.registers
+register_count net = length-map net.registers (λ (r : List ℕ × Register). r.1.width)
+
+pub port_count : (net : Net) → length (port_widths net) ≡ length net.inputs
+port_count net = length-map net.inputs (λ (p : List ℕ × ℕ). p.1)

@@ -3,3 +3,4 @@ pub mod Cuts
 pub mod Answers
 pub mod Dropping
 pub mod Rounds
+pub mod Confirming

@@ -30,3 +30,16 @@ pub enum Learnt {
     /// The budget was spent on this query.
     Budget(Query, Spent),
 }
+
+/// What became of a certificate.
+#[derive(Drop)]
+pub enum Confirmed {
+    /// The list is inductive and implies.
+    Yes,
+    /// A pair meets the query.
+    No(Query, Pair),
+    /// There is no initial pair, or no allowed input.
+    Empty(Query, Spent),
+    /// The certificate doesn't do at this place, and the budget was spent on the query.
+    Budget(Query, u64, Spent),
+}

@@ -51,6 +51,10 @@ fn settle(
 }
 
 /// The greatest inductive list of a task, and whether it implies.
+///
+/// An initial pair and an allowed input are asked for first; then what pairs refute is dropped, until Base and Step can't be
+/// met; then Imply is asked, and Base once more for its set. Each question may take `budget` lines. `Budget` is never answered
+/// where these are at least `2 * 3^f`, f being the free bits of the task.
 pub fn learn(alloc: Global, task: &Task, budget: u64) -> Result<Learnt, NoMemory>
     ensures { IfOk result (IsLearnt task.now budget) }
 {

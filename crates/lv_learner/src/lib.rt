@@ -1,12 +1,20 @@
-//! The greatest inductive list of a task, with a certificate.
+//! The greatest inductive list of a task, with a certificate; and what a certificate's list is.
 #![tactic(auto)]
 
 mod answers;
 mod ask;
 mod conclude;
+mod confirming;
 mod dropping;
+mod given;
+mod judge;
+mod laws;
 mod learner;
+mod moment;
 mod rounds;
+mod start;
 
-pub use answers::{Learnt, Sets};
+pub use answers::{Confirmed, Learnt, Sets};
+pub use confirming::confirm;
+pub use laws::derivations_can_be_written;
 pub use learner::learn;

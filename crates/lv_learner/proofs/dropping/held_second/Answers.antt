@@ -14,14 +14,20 @@ returns c =
     let net : Net = c.args.task.now.graph in
     let l : List Bits = values_of net c.args.pair.now.left.items c.args.first.now in
     let r : List Bits = values_of net c.args.pair.now.right.items c.args.first.now in
-    let h1 : c.in_ok-left.left.values ≡ l = c.in_ok-left.ensures.values ∙ ap (λ (s : List Bits). values_of net s c.args.first.now) c.as_slice.ensures.value in
-    let h2 : c.in_ok-right.right.values ≡ r = c.in_ok-right.ensures.values ∙ ap (λ (s : List Bits). values_of net s c.args.first.now) c.as_slice-2.ensures.value in
+    let h1 : c.in_ok-left.left.values ≡ l =
+    c.in_ok-left.ensures.values ∙ ap (λ (s : List Bits). values_of net s c.args.first.now) c.as_slice.ensures.value in
+    let h2 : c.in_ok-right.right.values ≡ r =
+    c.in_ok-right.ensures.values ∙ ap (λ (s : List Bits). values_of net s c.args.first.now) c.as_slice-2.ensures.value in
     let h3 : c.go_on.new.sim.values ≡ values_of net (next_state net c.in_ok-left.left.values) c.args.second.now = c.go_on.ensures.values in
     let h4 : c.go_on-2.new.sim.values ≡ values_of net (next_state net c.in_ok-right.right.values) c.args.second.now = c.go_on-2.ensures.values in
-    let n1 : c.count.result ≡ retired c.args.task.now.ports.items l = c.count.ensures ∙ (ap (λ (ps : List Port). retired ps c.in_ok-left.left.values) c.as_slice-ports.ensures.value ∙ ap (retired c.args.task.now.ports.items) h1) in
-    let n2 : c.count-2.result ≡ retired c.args.task.now.ports.items r = c.count-2.ensures ∙ (ap (λ (ps : List Port). retired ps c.in_ok-right.right.values) c.as_slice-ports.ensures.value ∙ ap (retired c.args.task.now.ports.items) h2) in
-    let same : nat_eq c.count.result c.count-2.result ≡ nat_eq (retired c.args.task.now.ports.items l) (retired c.args.task.now.ports.items r) = ap (λ (k : ℕ). nat_eq k c.count-2.result) n1 ∙ ap (λ (k : ℕ). nat_eq (retired c.args.task.now.ports.items l) k) n2 in
-    let q : Bool = nat_eq (retired c.args.task.now.ports.items l) (retired c.args.task.now.ports.items r) in
+    let ports : List Port = c.args.task.now.ports.items in
+    let n1 : c.count.result ≡ retired ports l =
+    c.count.ensures ∙ (ap (λ (ps : List Port). retired ps c.in_ok-left.left.values) c.as_slice-ports.ensures.value ∙ ap (retired ports) h1) in
+    let n2 : c.count-2.result ≡ retired ports r =
+    c.count-2.ensures ∙ (ap (λ (ps : List Port). retired ps c.in_ok-right.right.values) c.as_slice-ports.ensures.value ∙ ap (retired ports) h2) in
+    let same : nat_eq c.count.result c.count-2.result ≡ nat_eq (retired ports l) (retired ports r) =
+    ap (λ (k : ℕ). nat_eq k c.count-2.result) n1 ∙ ap (λ (k : ℕ). nat_eq (retired ports l) k) n2 in
+    let q : Bool = nat_eq (retired ports l) (retired ports r) in
     let e : c.if-pair.aligned ≡ (c.args.pair.now.aligned && q) =
     elim c.if-pair.branch [
       | then-pair w ↦ and_true c.args.pair.now.aligned q c.if-pair.aligned w.if-pair.true (w.aligned-is ∙ same)

@@ -38,7 +38,8 @@ returns-in-Unmet c =
     let task : Task = c.args.task.now in
     let s : List ℕ = c.in_ok-all.all.numbers.items in
     let spent = c.in-Unmet.spent in
-    let h : IsRefutedFor task s Initial c.args.budget spent.set spent.log = subst (λ (f : Found). IsFound task s Initial c.args.budget f) c.in-Unmet.is c.in_ok-pair.ensures in
+    let h : IsRefutedFor task s Initial c.args.budget spent.set spent.log =
+    subst (λ (f : Found). IsFound task s Initial c.args.budget f) c.in-Unmet.is c.in_ok-pair.ensures in
     let g : IsRefutedFor task [] Initial c.args.budget spent.set spent.log = record { stands = initial_stands spent.set task s [] h.stands; few = h.few; refuted = h.refuted } in
     (no_more task [] Initial c.args.budget spent.set spent.log g, g)
 
@@ -48,7 +49,8 @@ returns-in-Unmet-2 c =
     let s : List ℕ = c.in_ok-all.all.numbers.items in
     let spent = c.in-Unmet-2.spent in
     let m : Meets task s Initial c.in-Met.pair = subst (λ (f : Found). IsFound task s Initial c.args.budget f) c.in-Met.is c.in_ok-pair.ensures in
-    let h : IsRefutedFor task s Allowed c.args.budget spent.set spent.log = subst (λ (f : Found). IsFound task s Allowed c.args.budget f) c.in-Unmet-2.is c.in_ok-pair-2.ensures in
+    let h : IsRefutedFor task s Allowed c.args.budget spent.set spent.log =
+    subst (λ (f : Found). IsFound task s Allowed c.args.budget f) c.in-Unmet-2.is c.in_ok-pair-2.ensures in
     let g : IsRefutedFor task [] Allowed c.args.budget spent.set spent.log = record { stands = allowed_stands spent.set task s [] h.stands; few = h.few; refuted = h.refuted } in
     (can task [] Initial c.in-Met.pair (initial_any task s [] c.in-Met.pair m), no_more task [] Allowed c.args.budget spent.set spent.log g, g)
 
@@ -56,12 +58,14 @@ pub returns-in-Short : goal.returns-in-Short
 returns-in-Short c =
     let task : Task = c.args.task.now in
     let s : List ℕ = c.in_ok-all.all.numbers.items in
-    let h : IsSpentFor task s Initial c.args.budget c.in-Short.spent.set c.in-Short.spent.log = subst (λ (f : Found). IsFound task s Initial c.args.budget f) c.in-Short.is c.in_ok-pair.ensures in
+    let h : IsSpentFor task s Initial c.args.budget c.in-Short.spent.set c.in-Short.spent.log =
+    subst (λ (f : Found). IsFound task s Initial c.args.budget f) c.in-Short.is c.in_ok-pair.ensures in
     record { list = s; above = all_above task s c.in_ok-all.ensures; spent_is = h }
 
 pub returns-in-Short-2 : goal.returns-in-Short-2
 returns-in-Short-2 c =
     let task : Task = c.args.task.now in
     let s : List ℕ = c.in_ok-all.all.numbers.items in
-    let h : IsSpentFor task s Allowed c.args.budget c.in-Short-2.spent.set c.in-Short-2.spent.log = subst (λ (f : Found). IsFound task s Allowed c.args.budget f) c.in-Short-2.is c.in_ok-pair-2.ensures in
+    let h : IsSpentFor task s Allowed c.args.budget c.in-Short-2.spent.set c.in-Short-2.spent.log =
+    subst (λ (f : Found). IsFound task s Allowed c.args.budget f) c.in-Short-2.is c.in_ok-pair-2.ensures in
     record { list = s; above = all_above task s c.in_ok-all.ensures; spent_is = h }

@@ -6,4 +6,6 @@ mod building;
 #[cfg(test)]
 mod rows;
 #[cfg(test)]
+mod switches;
+#[cfg(test)]
 mod tasks;

@@ -42,7 +42,7 @@ const BY_SECRET: [Step; 16] = [
     Step::Next(0, 0),
 ];
 
-fn late(alloc: Global, lookahead: u32) -> Result<Task, Fail> {
+pub(crate) fn late(alloc: Global, lookahead: u32) -> Result<Task, Fail> {
     let graph = built(alloc, &LATE)?;
     let candidates = [Candidate::Eq(0), Candidate::Eq(1), Candidate::Aligned];
     task(alloc, graph, 7, 0, 9, &[1], &candidates, lookahead)
@@ -63,7 +63,7 @@ fn by_secret(alloc: Global, lookahead: u32) -> Result<Task, Fail> {
 }
 
 // The words of s and c in both copies, and of the truth value.
-fn words(alloc: Global, values: [u128; 5]) -> Result<Vec<Word>, Fail> {
+pub(crate) fn words(alloc: Global, values: [u128; 5]) -> Result<Vec<Word>, Fail> {
     let widths = [1, 2, 1, 2, 1];
     let mut words = Vec::new(alloc);
     for k in 0..5 {
@@ -75,7 +75,7 @@ fn words(alloc: Global, values: [u128; 5]) -> Result<Vec<Word>, Fail> {
     Ok(words)
 }
 
-fn asked(
+pub(crate) fn asked(
     alloc: Global,
     task: &Task,
     query: Query,

@@ -127,8 +127,16 @@ pub(crate) fn kept(alloc: Global, task: &Task, numbers: &[u64]) -> Result<Kept, 
 
 /// The number of the goal under these words.
 pub(crate) fn goal(alloc: Global, product: &Product, words: &[Word]) -> Result<u128, Fail> {
-    let graph = product.graph();
-    let goal = product.goal();
+    goal_of(alloc, product.graph(), product.goal(), words)
+}
+
+/// The number of this node under these words.
+pub(crate) fn goal_of(
+    alloc: Global,
+    graph: &Graph,
+    goal: u64,
+    words: &[Word],
+) -> Result<u128, Fail> {
     if graph.registers() != 0 || !fits_inputs(graph, words) || graph.len() <= goal {
         return Err(Fail::from("no such words"));
     }

@@ -18,10 +18,12 @@ pub returns-clause-wider : goal.returns-clause-wider
 returns-clause-wider c =
     let core = c.args.core.now.lits.items in
     let is : c.deref-2.result.now ≡ map negated core = c.deref-2.ensures.value ∙ (c.in_ok-all.ensures ∙ ap (map negated) c.deref.ensures.value) in
-    wider-blocked c.args.assumed.now core c.args.set.now c.add.new.self c.in_ok-add.field-0 c.requires.core (subst (λ z. IsAdded c.args.set.now z c.in_ok-add.field-0 c.add.new.self) is c.in_ok-add.ensures.ok)
+    wider-blocked c.args.assumed.now core c.args.set.now c.add.new.self c.in_ok-add.field-0 c.requires.core
+    (subst (λ z. IsAdded c.args.set.now z c.in_ok-add.field-0 c.add.new.self) is c.in_ok-add.ensures.ok)
 
 pub returns-clause-blocked : goal.returns-clause-blocked
 returns-clause-blocked c =
     let core = c.args.core.now.lits.items in
     let is : c.deref-2.result.now ≡ map negated core = c.deref-2.ensures.value ∙ (c.in_ok-all.ensures ∙ ap (map negated) c.deref.ensures.value) in
-    blocked-added c.args.assumed.now core c.args.set.now c.add.new.self c.in_ok-add.field-0 c.requires.core (subst (λ z. IsAdded c.args.set.now z c.in_ok-add.field-0 c.add.new.self) is c.in_ok-add.ensures.ok)
+    blocked-added c.args.assumed.now core c.args.set.now c.add.new.self c.in_ok-add.field-0 c.requires.core
+    (subst (λ z. IsAdded c.args.set.now z c.in_ok-add.field-0 c.add.new.self) is c.in_ok-add.ensures.ok)

@@ -30,7 +30,8 @@ returns c =
       copies = c.requires.right;
     })
     c.requires.aligned c.in_ok-initial.ensures
-    (counted c.initial_pair.new.b c.all_guarded.new.b c.in_ok-hold.hold c.args.from (held cs c.initial_pair.new.b c.as_slice-l.result.now c.as_slice-r.result.now c.args.aligned) cs all c.as_slice-cs.ensures.value c.in_ok-hold.ensures)
+    (counted c.initial_pair.new.b c.all_guarded.new.b c.in_ok-hold.hold c.args.from (held cs c.initial_pair.new.b c.as_slice-l.result.now c.as_slice-r.result.now c.args.aligned)
+    cs all c.as_slice-cs.ensures.value c.in_ok-hold.ensures)
     c.in_ok-start.ensures c.in_ok-at.ensures
 
 pub initial_pair-requires-clause-left : goal.initial_pair-requires-clause-left

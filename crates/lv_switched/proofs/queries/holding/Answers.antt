@@ -30,7 +30,8 @@ returns c =
       copies = c.requires.right;
     })
     c.requires.aligned c.in_ok-alike.ensures
-    (counted c.alike.new.b c.all_guarded.new.b c.in_ok-hold.hold c.args.from (held cs c.alike.new.b c.as_slice-l.result.now c.as_slice-r.result.now c.args.aligned) cs all c.as_slice-cs.ensures.value c.in_ok-hold.ensures) c.in_ok-at.ensures
+    (counted c.alike.new.b c.all_guarded.new.b c.in_ok-hold.hold c.args.from (held cs c.alike.new.b c.as_slice-l.result.now c.as_slice-r.result.now c.args.aligned)
+    cs all c.as_slice-cs.ensures.value c.in_ok-hold.ensures) c.in_ok-at.ensures
 
 pub all_guarded-requires-clause-left : goal.all_guarded-requires-clause-left
 all_guarded-requires-clause-left c = table_kept c.args.b.now c.alike.new.b c.args.task.now.graph c.as_slice-l.result.now c.in_ok-alike.ensures.extends

@@ -45,7 +45,8 @@ returns c =
       copies = c.requires.right;
     })
     c.requires.aligned c.in_ok-holding.ensures c.in_ok-after.ensures
-    (counted c.next_aligned.new.b c.all_guarded.new.b c.in_ok-hold.hold c.args.from (held cs c.next_aligned.new.b c.as_slice-x.result.now c.as_slice-y.result.now c.in_ok-after.after) cs all c.as_slice-cs.ensures.value c.in_ok-hold.ensures) c.in_ok-at.ensures
+    (counted c.next_aligned.new.b c.all_guarded.new.b c.in_ok-hold.hold c.args.from (held cs c.next_aligned.new.b c.as_slice-x.result.now c.as_slice-y.result.now c.in_ok-after.after)
+    cs all c.as_slice-cs.ensures.value c.in_ok-hold.ensures) c.in_ok-at.ensures
 
 pub next_aligned-requires-clause-left : goal.next_aligned-requires-clause-left
 next_aligned-requires-clause-left c = table_kept c.args.b.now c.holding.new.b c.args.task.now.graph c.as_slice-l.result.now
@@ -58,12 +59,14 @@ next_aligned-requires-clause-right c = table_kept c.args.b.now c.holding.new.b c
     c.as_slice-r.ensures.value c.index-right-0.is (omega arith) c.requires.right)
 
 pub all_guarded-requires-clause-left : goal.all_guarded-requires-clause-left
-all_guarded-requires-clause-left c = table_kept c.args.b.now c.next_aligned.new.b c.args.task.now.graph c.as_slice-x.result.now (extends_trans c.args.b.now c.holding.new.b c.next_aligned.new.b c.in_ok-holding.ensures.extends c.in_ok-after.ensures.extends)
+all_guarded-requires-clause-left c = table_kept c.args.b.now c.next_aligned.new.b c.args.task.now.graph c.as_slice-x.result.now
+    (extends_trans c.args.b.now c.holding.new.b c.next_aligned.new.b c.in_ok-holding.ensures.extends c.in_ok-after.ensures.extends)
     (table_at c.args.b.now c.args.task.now.graph c.args.left.now 1 c.index-left-1.result c.as_slice-x.result.now c.as_slice-x.ensures.value
     c.index-left-1.is (omega arith) c.requires.left)
 
 pub all_guarded-requires-clause-right : goal.all_guarded-requires-clause-right
-all_guarded-requires-clause-right c = table_kept c.args.b.now c.next_aligned.new.b c.args.task.now.graph c.as_slice-y.result.now (extends_trans c.args.b.now c.holding.new.b c.next_aligned.new.b c.in_ok-holding.ensures.extends c.in_ok-after.ensures.extends)
+all_guarded-requires-clause-right c = table_kept c.args.b.now c.next_aligned.new.b c.args.task.now.graph c.as_slice-y.result.now
+    (extends_trans c.args.b.now c.holding.new.b c.next_aligned.new.b c.in_ok-holding.ensures.extends c.in_ok-after.ensures.extends)
     (table_at c.args.b.now c.args.task.now.graph c.args.right.now 1 c.index-right-1.result c.as_slice-y.result.now c.as_slice-y.ensures.value
     c.index-right-1.is (omega arith) c.requires.right)
 

@@ -1,7 +1,6 @@
 -- The places of a target, name after name.
-use Rattle.std.proofs.Common.{◌≡◌, ℕ, ◌+◌, ◌-◌, ◌<◌, ◌≤◌, Bool, true, false, not, ◌&&◌, List, [], ◌∷◌, ◌++◌, length, map, take, drop, get_or, add-one, refl, sym, ◌∙◌, ap, subst, arith, append_assoc, All, Option, Some, None, ℤ, pos}
-use Rattle.std.specs.Prelude.{zero, suc, flat_map, sum_by, ◌-ℤ◌}
-use Rattle.std.specs.List.{list_all}
+use Rattle.std.proofs.Common.{◌≡◌, ℕ, ◌+◌, ◌-◌, ◌<◌, ◌≤◌, Bool, true, List, [], ◌∷◌, ◌++◌, length, map, take, drop, get_or, add-one, refl, sym, ◌∙◌, ap, subst, arith, append_assoc, Option, Some, None, ℤ, pos}
+use Rattle.std.specs.Prelude.{zero, suc, sum_by, ◌-ℤ◌}
 use Rattle.std.proofs.Math.Seq.{take-suc}
 use Rattle.std.proofs.lemmas.List.{map-append, append-nil}
 use Rattle.std.proofs.lemmas.List.Sums.{sum-map, sum_by_push, sum_by-append}
@@ -10,18 +9,15 @@ use Rattle.lv_netlist.specs.Net.{Net}
 use Rattle.lv_source.specs.Names.{Bounds, Declared, Valuation, width_of, is_signal_sort}
 use Rattle.lv_source.specs.Values.{Chosen, Meaning, nowhere, number_of, own_value}
 use Rattle.lv_source.specs.Places.{Place, place_of, bit_selects, lowest, count_of}
-use Rattle.lv_source.specs.Meaning.{meant}
 use Rattle.lv_source.specs.Effect.{Piece, aimed, piece_place, places, bits_in}
 use Rattle.lv_source.specs.Parts.{is_declared_sort}
 use Rattle.lv_flat.specs.Cells.{Cell}
 use Rattle.lv_flat.specs.Signals.{Signals, signal_at}
-use Rattle.lv_flat.specs.Judged.{judge_select, choices}
 use Rattle.lv_flat.specs.Executing.{pieces}
 use Rattle.lv_flat.specs.declared.expr.FlatSelect.{FlatSelect}
 use Rattle.lv_flat.specs.declared.stmt.FlatName.{FlatName}
 use Rattle.lv_flat.specs.declared.stmt.FlatTarget.{FlatTarget}
 use Rattle.lv_flat.proofs.Targets.{piece_of}
-use Rattle.lv_values.specs.declared.value.Value.{Value}
 use Rattle.lv_values.specs.Worlds.{World, Obeys, Grows, width_of as wide_of, number}
 use Rattle.lv_values.specs.Picked.{code_number}
 use Rattle.lv_values.proofs.Growth.{grows-refl, grows-trans, obeys-before, in-later}
@@ -30,7 +26,7 @@ use Rattle.lv_lower_exprs.specs.Named.{chosen_by}
 use Rattle.lv_lower_exprs.proofs.Naming.{chosen-map}
 use Rattle.lv_lower_blocks.specs.declared.aims.Spot.{Spot}
 use Rattle.lv_lower_blocks.specs.declared.aims.Aim.{Aim}
-use Rattle.lv_lower_blocks.specs.Aimed.{Span, spot_number, span_of, first_span, aim_place, spot_width, chosen_width, aim_width, aims_width, IsSpotIn, IsSpot, IsElement, IsAim, AreAims, Begins, Spots, Names, Aims, pieces_all}
+use Rattle.lv_lower_blocks.specs.Aimed.{Span, spot_number, span_of, first_span, aim_place, spot_width, chosen_width, aim_width, IsSpotIn, IsSpot, IsElement, IsAim, AreAims, Begins, Spots, Names, Aims, pieces_all}
 use Rattle.lv_lower_blocks.proofs.Spans.{SameElement, place-is, named-count, chosen-some, chosen-most}
 
 -- ---- a longer graph

@@ -1,24 +1,23 @@
 -- The arms of a `case` over tables.
-use Rattle.std.proofs.Common.{◌≡◌, ℕ, ◌+◌, ◌<◌, ◌≤◌, ◌==◌, zero, suc, Bool, true, false, not, ◌&&◌, List, [], ◌∷◌, ◌++◌, length, map, drop, drop-cons, add-one, get_or, refl, sym, ◌∙◌, ap, subst, arith}
+use Rattle.std.proofs.Common.{◌≡◌, ℕ, ◌+◌, ◌<◌, ◌==◌, zero, suc, Bool, true, false, not, ◌&&◌, List, [], ◌∷◌, length, map, drop, drop-cons, add-one, get_or, refl, sym, ◌∙◌, ap, subst, arith}
 use Rattle.std.specs.Prelude.{if◌then◌else◌, flat_map}
 use Rattle.std.specs.List.{list_any, list_all}
 use Rattle.lv_bits.specs.Values.{bit}
 use Rattle.lv_netlist.specs.Net.{Net}
 use Rattle.lv_source.specs.Names.{Valuation}
-use Rattle.lv_source.specs.Effect.{State, Label, Arm, Width, applied, fits_label, is_default, selected_of, common_of, arm_labels, taken_of, case_of}
-use Rattle.lv_source.specs.Meaning.{Reading}
+use Rattle.lv_source.specs.Effect.{State, Label, Arm, Width, applied, fits_label, selected_of, common_of, arm_labels, taken_of}
 use Rattle.lv_flat.specs.declared.expr.FlatExpr.{FlatExpr}
 use Rattle.lv_flat.specs.declared.stmt.FlatArm.{FlatArm}
 use Rattle.lv_flat.specs.declared.stmt.FlatStmt.{FlatStmt}
 use Rattle.lv_flat.specs.declared.stmt.FlatStmt.TheVariants as b
 use Rattle.lv_flat.specs.Signals.{Signals}
 use Rattle.lv_flat.specs.Cells.{Cell}
-use Rattle.lv_flat.specs.Judged.{meaning, reading, is_good}
+use Rattle.lv_flat.specs.Judged.{reading, is_good}
 use Rattle.lv_flat.specs.Executing.{Effect}
 use Rattle.lv_flat.specs.Good.{good_stmt}
 use Rattle.lv_flat.proofs.GoodParts.{good-Case}
 use Rattle.lv_values.specs.declared.value.Value.{Value}
-use Rattle.lv_values.specs.Worlds.{World, Obeys, Grows, number}
+use Rattle.lv_values.specs.Worlds.{World, Obeys, number}
 use Rattle.lv_values.proofs.Growth.{grows-refl, grows-trans, obeys-before}
 use Rattle.lv_lower_exprs.specs.Tables.{IsTable, Shows, Means}
 use Rattle.lv_lower_exprs.proofs.Meant.{table-later}
@@ -26,7 +25,7 @@ use Rattle.lv_lower_exprs.proofs.Parts.{and-left, and-right}
 use Rattle.lv_lower_blocks.specs.Rewritten.{MayBeTable}
 use Rattle.lv_lower_blocks.specs.Aimed.{IsZero}
 use Rattle.lv_lower_blocks.specs.Running.{Runs, keeps_writes}
-use Rattle.lv_lower_blocks.specs.Cased.{labels_of, Fits, first_fit, last_default, arms_read, Chosen, arms_do, ArmsRun, good_arm_of, good_labels}
+use Rattle.lv_lower_blocks.specs.Cased.{labels_of, Fits, first_fit, last_default, arms_read, Chosen, arms_do, ArmsRun, good_arm_of}
 use Rattle.lv_lower_blocks.proofs.Merging.{may-be-later}
 use Rattle.lv_lower_blocks.proofs.Keeping.{keeps-Case}
 use Rattle.lv_lower_blocks.proofs.Runnings.{if-out}
@@ -142,8 +141,8 @@ module _ {cells : List Cell} where
   arms-skip {b0} {b1} {b2} {yn = yn} {yd = yd} {t = t} {selector = selector} {G = G} {F = F} g a f z =
       let miss : (w : World) (s q : State) → Obeys b2 w → Shows w cells _ s.valuation → G (number w selector) s q ≡ (if F (number w selector) s.valuation then g s else G (number w selector) s q) =
       λ w s q o x.
-          let n : F (number w selector) s.valuation ≡ false = sym (bit-not (F (number w selector) s.valuation)) ∙ ap (λ n. not (n == 0)) (sym (f.is w s.valuation o x) ∙ z.is w) in
-          sym (ap (λ (u : Bool). if u then g s else G (number w selector) s q) n) in
+      let n : F (number w selector) s.valuation ≡ false = sym (bit-not (F (number w selector) s.valuation)) ∙ ap (λ n. not (n == 0)) (sym (f.is w s.valuation o x) ∙ z.is w) in
+      sym (ap (λ (u : Bool). if u then g s else G (number w selector) s q) n) in
       record {
         grows = grows-trans b0 b1 b2 a.grows f.grows;
         table = table-later f.grows a.table;

@@ -1,19 +1,18 @@
 -- What blocks leave, from what their statements leave of two tables.
-use Rattle.std.proofs.Common.{◌≡◌, ℕ, ◌<◌, ◌≤◌, inl, inr, Bool, true, List, [], length, refl, sym, ◌∙◌, ap, subst, arith}
+use Rattle.std.proofs.Common.{◌≡◌, ℕ, inl, inr, true, List, [], length, sym, ◌∙◌, ap, subst, arith}
 use Rattle.std.specs.List.{list_all}
 use Rattle.std.proofs.lemmas.Bool.{cases_lt}
 use Rattle.lv_netlist.specs.Net.{Net}
 use Rattle.lv_source.specs.Names.{Valuation}
-use Rattle.lv_source.specs.Effect.{State, applied, left_of}
+use Rattle.lv_source.specs.Effect.{State}
 use Rattle.lv_source.specs.Flow.{Event}
 use Rattle.lv_flat.specs.declared.stmt.FlatStmt.{FlatStmt}
 use Rattle.lv_flat.specs.Cells.{Cell}
 use Rattle.lv_flat.specs.Signals.{Signals}
 use Rattle.lv_flat.specs.Flows.{flow}
-use Rattle.lv_flat.specs.Executing.{executes}
 use Rattle.lv_lower_exprs.specs.Tables.{IsTable, Shows}
 use Rattle.lv_lower_blocks.specs.Rewritten.{MayBeTable}
-use Rattle.lv_lower_blocks.specs.Running.{Runs, keeps_writes, writes_from, Settles, Clocks}
+use Rattle.lv_lower_blocks.specs.Running.{Runs, keeps_writes, Settles, Clocks}
 use Rattle.lv_lower_blocks.proofs.Leaving.{keeps-valuation, left-at-once}
 
 pub no-table : {net : Net} {cells : List Cell} (t : List ℕ) → t ≡ [] → MayBeTable net cells t

@@ -1,5 +1,5 @@
 -- The arms of a `case` from the last to the first, and its labels over a table.
-use Rattle.std.proofs.Common.{◌≡◌, ℕ, ◌+◌, ◌*◌, ◌/◌, ◌%◌, ◌<◌, ◌≤◌, ◌^◌, ◌==◌, zero, suc, max, Bool, true, false, not, ◌&&◌, ◌||◌, List, [], ◌∷◌, ◌++◌, length, map, take, drop, drop-cons, add-one, get_or, refl, sym, ◌∙◌, ap, subst, arith, All, Option, Some, None}
+use Rattle.std.proofs.Common.{◌≡◌, ℕ, ◌+◌, ◌*◌, ◌/◌, ◌%◌, ◌<◌, ◌≤◌, ◌^◌, ◌==◌, zero, suc, max, Bool, true, false, ◌&&◌, ◌||◌, List, [], ◌∷◌, ◌++◌, length, map, take, drop, drop-cons, add-one, get_or, refl, sym, ◌∙◌, ap, subst, arith, Some, None}
 use Rattle.std.specs.Prelude.{if◌then◌else◌, flat_map, bit_or}
 use Rattle.std.specs.List.{list_all, list_any}
 use Rattle.std.proofs.Math.Seq.{take-suc}
@@ -16,24 +16,24 @@ use Rattle.lv_bits.specs.Words.{Bits}
 use Rattle.lv_ast.specs.declared.expr.Literal.{Literal}
 use Rattle.lv_netlist.specs.Net.{Net}
 use Rattle.lv_source.specs.Names.{Valuation}
-use Rattle.lv_source.specs.Effect.{State, Label, Arm, Width, is_default, arm_labels, taken_of, common_of, fits_label, free_of}
+use Rattle.lv_source.specs.Effect.{Label, Arm, Width, is_default, arm_labels, taken_of, common_of, fits_label, free_of}
 use Rattle.lv_source.specs.Meaning.{Reading}
 use Rattle.lv_flat.specs.declared.expr.FlatExpr.{FlatExpr}
 use Rattle.lv_flat.specs.declared.expr.FlatExpr.TheVariants as e
 use Rattle.lv_flat.specs.declared.stmt.FlatArm.{FlatArm}
 use Rattle.lv_flat.specs.Signals.{Signals}
 use Rattle.lv_flat.specs.Cells.{Cell}
-use Rattle.lv_flat.specs.Judged.{judge, meaning, reading, is_good}
+use Rattle.lv_flat.specs.Judged.{judge, meaning, is_good}
 use Rattle.lv_flat.specs.Executing.{label_of}
 use Rattle.lv_values.specs.declared.value.Value.{Value}
-use Rattle.lv_values.specs.Worlds.{World, Obeys, Grows, Gives, IsIn, number, width_of}
+use Rattle.lv_values.specs.Worlds.{World, Gives, IsIn, number, width_of}
 use Rattle.lv_values.proofs.Growth.{grows-refl, grows-trans, obeys-before, gives-is, gives-same}
-use Rattle.lv_lower_exprs.specs.Tables.{Shows, Means}
+use Rattle.lv_lower_exprs.specs.Tables.{Means}
 use Rattle.lv_lower_exprs.proofs.Parts.{and-left, and-right, lit-means}
 use Rattle.lv_lower_blocks.specs.Cased.{common_more, labels_of, good_labels, good_arm_of, Fits, first_fit, last_default, arm_read, arms_read, AreLabelled, AreWithin, ArmsWithin, IsDefault}
 use Rattle.lv_lower_blocks.specs.Running.{keeps_writes}
 use Rattle.lv_flat.specs.Executing.{Effect}
-use Rattle.std.proofs.lemmas.List.Elements.{All-head, All-tail, All-cons, All-nil, All-from_get_or}
+use Rattle.std.proofs.lemmas.List.Elements.{All-head, All-tail, All-cons, All-nil}
 
 cut-at : {A : Type 0} (i : ℕ) (xs : List A) → take i xs ++ drop i xs ≡ xs
 cut-at zero xs = refl

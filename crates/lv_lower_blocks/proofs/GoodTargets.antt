@@ -1,5 +1,5 @@
 -- What is good of the names of a good target.
-use Rattle.std.proofs.Common.{◌≡◌, ℕ, ◌≤◌, ◌<◌, zero, suc, Bool, true, false, not, ◌&&◌, ◌||◌, List, [], ◌∷◌, length, map, get_or, refl, sym, ◌∙◌, ap, subst, arith, Option, Some, None, ℤ, pos, negsuc}
+use Rattle.std.proofs.Common.{◌≡◌, ℕ, ◌≤◌, ◌<◌, zero, suc, Bool, true, false, not, ◌&&◌, ◌||◌, List, [], ◌∷◌, length, map, get_or, refl, sym, ◌∙◌, ap, subst, arith, Option, Some, None, pos, negsuc}
 use Rattle.std.specs.Prelude.{if◌then◌else◌, nat_lt, nat_le, ◌^◌, ◌-◌}
 use Rattle.std.specs.List.{list_all}
 use Rattle.lv_ast.specs.declared.expr.Expr.TheOpen.{Select-F}
@@ -15,7 +15,7 @@ use Rattle.lv_flat.specs.declared.stmt.FlatName.{FlatName}
 use Rattle.lv_flat.specs.declared.stmt.FlatTarget.{FlatTarget}
 use Rattle.lv_flat.specs.declared.stmt.FlatTarget.TheVariants as t
 use Rattle.lv_flat.specs.Signals.{Signals, signal_at}
-use Rattle.lv_flat.specs.Judged.{JudgedSelect, judge_select, choices, step_of, shown_of, good_selects}
+use Rattle.lv_flat.specs.Judged.{JudgedSelect, judge_select, step_of, shown_of}
 use Rattle.lv_flat.specs.Good.{are_targets}
 use Rattle.lv_flat.proofs.GoodParts.{targets-Signal, targets-Cat}
 use Rattle.lv_flat.proofs.Widths.{width-least, width-most}

@@ -1,10 +1,10 @@
 -- The writes of a statement, by the form of the tree.
-use Rattle.std.proofs.Common.{◌≡◌, ℕ, ◌+◌, ◌<◌, Bool, true, false, ◌&&◌, List, [], ◌∷◌, ◌++◌, length, map, take, get_or, add-one, refl, sym, ◌∙◌, ap, subst, arith, Option, Some, None}
+use Rattle.std.proofs.Common.{◌≡◌, ℕ, ◌+◌, ◌<◌, Bool, true, ◌&&◌, List, [], ◌∷◌, ◌++◌, length, map, take, get_or, add-one, refl, sym, ◌∙◌, ap, arith, Option, Some, None}
 use Rattle.std.specs.Prelude.{zero, suc, if◌then◌else◌}
 use Rattle.std.specs.List.{list_all}
 use Rattle.std.proofs.Math.Seq.{take-suc}
 use Rattle.lv_source.specs.Names.{Valuation}
-use Rattle.lv_source.specs.Effect.{State, Update, Arm, is_met, write_all, applied, one_by_one, if_of, case_of, later_of}
+use Rattle.lv_source.specs.Effect.{State, Update, Arm, is_met, write_all, applied, one_by_one, if_of, case_of}
 use Rattle.lv_flat.specs.declared.expr.FlatExpr.{FlatExpr}
 use Rattle.lv_flat.specs.declared.stmt.FlatTarget.{FlatTarget}
 use Rattle.lv_flat.specs.declared.stmt.FlatArm.{FlatArm}
@@ -12,13 +12,13 @@ use Rattle.lv_flat.specs.declared.stmt.FlatStmt.{FlatStmt}
 use Rattle.lv_flat.specs.declared.stmt.FlatStmt.TheVariants as b
 use Rattle.lv_flat.specs.Signals.{Signals}
 use Rattle.lv_flat.specs.Judged.{reading, is_good}
-use Rattle.lv_flat.specs.Executing.{Effect, pieces, arm_step}
+use Rattle.lv_flat.specs.Executing.{Effect, arm_step}
 use Rattle.lv_flat.specs.Good.{good_stmt, good_target}
 use Rattle.lv_flat.proofs.StmtFolds as fold
 use Rattle.lv_flat.proofs.Effects.{read_arm}
 use Rattle.lv_flat.proofs.GoodParts.{good-Block, good-If, good-If_else, good-Now, good-Later}
 use Rattle.lv_lower_exprs.proofs.Parts.{and-left, and-right}
-use Rattle.lv_lower_blocks.specs.Running.{kept_now, write_step, keeps_writes, good_or, keeps_or, keeps_all, keeps_now, keeps_later}
+use Rattle.lv_lower_blocks.specs.Running.{write_step, keeps_writes, good_or, keeps_or, keeps_all, keeps_now, keeps_later}
 
 -- an update more is applied last
 pub applied-more : (us : List Update) (u : Update) (v : Valuation) → applied v (us ++ u ∷ []) ≡ write_all (applied v us) u.places u.value

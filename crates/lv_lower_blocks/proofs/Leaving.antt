@@ -1,5 +1,5 @@
 -- Kept writes change no valuation: what a statement leaves in the valuation is what it does by `lv_flat`.
-use Rattle.std.proofs.Common.{◌≡◌, ℕ, Bool, true, false, List, [], ◌∷◌, ◌++◌, map, refl, sym, ◌∙◌, ap, subst}
+use Rattle.std.proofs.Common.{◌≡◌, Bool, true, false, List, [], ◌∷◌, ◌++◌, map, refl, sym, ◌∙◌, ap}
 use Rattle.std.specs.Prelude.{if◌then◌else◌, flat_map}
 use Rattle.std.specs.List.{list_any, list_all}
 use Rattle.lv_source.specs.Names.{Valuation}
@@ -9,7 +9,6 @@ use Rattle.lv_source.specs.Values.{nowhere}
 use Rattle.lv_source.specs.Flow.{Event, Flow, branches, either_flow, all_flows}
 use Rattle.lv_flat.specs.declared.stmt.FlatStmt.{FlatStmt, Row_of-FlatStmt, end_of-FlatStmt, more_of-FlatStmt, Row_of-FlatArm, end_of-FlatArm, more_of-FlatArm, Held-FlatStmt-If-2, None', Some'}
 use Rattle.lv_flat.specs.declared.stmt.FlatStmt.TheVariants as b
-use Rattle.lv_flat.specs.declared.stmt.FlatStmt.TheOpen.{FlatStmt-F}
 use Rattle.lv_flat.specs.Signals.{Signals}
 use Rattle.lv_flat.specs.Judged.{reading}
 use Rattle.lv_flat.specs.Executing.{Effect, pieces, label_of, arm_step, effect_step, otherwise, executes}

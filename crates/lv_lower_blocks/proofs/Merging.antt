@@ -1,5 +1,5 @@
 -- Two tables of which a node chooses.
-use Rattle.std.proofs.Common.{◌≡◌, true, false, ℕ, ◌+◌, ◌<◌, ◌≤◌, ◌==◌, List, length, refl, sym, ◌∙◌, ap, arith}
+use Rattle.std.proofs.Common.{◌≡◌, true, false, ℕ, ◌+◌, ◌<◌, ◌==◌, List, length, refl, sym, ◌∙◌, ap, arith}
 use Rattle.std.specs.Prelude.{if◌then◌else◌, slice_index, slice_set}
 use Rattle.lv_bits.specs.Words.{Bits}
 use Rattle.lv_netlist.specs.declared.node.Node.TheVariants.{Mux}
@@ -10,7 +10,7 @@ use Rattle.lv_values.specs.Worlds.{Grows}
 use Rattle.lv_values.proofs.Growth.{gives-node}
 use Rattle.lv_lower_exprs.specs.Tables.{IsTable, value_at}
 use Rattle.lv_lower_exprs.proofs.Meant.{table-later}
-use Rattle.lv_lower_blocks.specs.Rewritten.{Rewrites, Muxes, AreAlike, Merges, chosen_at, MayBeTable}
+use Rattle.lv_lower_blocks.specs.Rewritten.{Rewrites, Muxes, AreAlike, chosen_at, MayBeTable}
 use Rattle.lv_lower_blocks.proofs.Rewriting.{rewrites-next, rewrites-stay, width-later}
 
 cond_value : (x : ℕ) (p q : Bits) → (if x == 0 then q else p).value ≡ (if x == 0 then q.value else p.value)

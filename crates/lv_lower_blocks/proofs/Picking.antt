@@ -1,9 +1,9 @@
 -- Tables of which a value chooses.
-use Rattle.std.proofs.Common.{◌≡◌, ℕ, ◌<◌, ◌≤◌, ◌==◌, zero, suc, Bool, true, false, not, List, length, refl, sym, ◌∙◌, ap, subst, arith}
+use Rattle.std.proofs.Common.{◌≡◌, ℕ, ◌==◌, Bool, true, false, not, List, length, refl, sym, ◌∙◌, ap, arith}
 use Rattle.std.specs.Prelude.{if◌then◌else◌, slice_index}
 use Rattle.std.proofs.lemmas.Bool.Decides.{nat_tests}
 use Rattle.lv_bits.specs.Words.{Bits}
-use Rattle.lv_netlist.specs.Net.{Net, width_at}
+use Rattle.lv_netlist.specs.Net.{Net}
 use Rattle.lv_source.specs.Names.{Valuation}
 use Rattle.lv_flat.specs.Cells.{Cell, cell_at}
 use Rattle.lv_values.specs.declared.value.Value.{Value}

@@ -1,9 +1,9 @@
 -- One place that is written, cell after cell.
-use Rattle.std.proofs.Common.{◌≡◌, ℕ, ◌+◌, ◌-◌, ◌<◌, ◌≤◌, ◌≢◌, ◌==◌, ◌^◌, inl, inr, Bool, true, false, not, ◌&&◌, List, [], ◌∷◌, length, map, take, refl, sym, ◌∙◌, ap, subst, arith, Option, Some, None, ℤ, pos, negsuc}
-use Rattle.std.specs.Prelude.{if◌then◌else◌, slice_index, slice_set, nat_lt, bytes_eq, decimal, ◌/◌}
+use Rattle.std.proofs.Common.{◌≡◌, ℕ, ◌+◌, ◌-◌, ◌<◌, ◌≤◌, ◌==◌, ◌^◌, inl, inr, Bool, true, false, List, [], ◌∷◌, length, take, refl, sym, ◌∙◌, ap, subst, arith, Option, Some, None, ℤ, pos, negsuc}
+use Rattle.std.specs.Prelude.{if◌then◌else◌, slice_index, slice_set, bytes_eq, decimal, ◌/◌}
 use Rattle.std.proofs.Math.Nat.{mod-eq_of_lt}
 use Rattle.lv_bits.specs.Values.{bit}
-use Rattle.std.proofs.lemmas.Bool.{cases_eq, cases_lt}
+use Rattle.std.proofs.lemmas.Bool.{cases_lt}
 use Rattle.std.proofs.lemmas.Bool.Decides.{nat_tests}
 use Rattle.std.proofs.lemmas.Slice.Eq.{bytes_eq-Decides}
 use Rattle.lv_ast.specs.Names.{Name, at_index}
@@ -16,14 +16,13 @@ use Rattle.lv_flat.specs.Cells.{Cell, cell_at, all_cells, AreDistinct}
 use Rattle.lv_flat.specs.Signals.{Signals, signal_at}
 use Rattle.lv_values.specs.declared.value.Value.{Value}
 use Rattle.lv_values.specs.declared.value.Value.TheVariants.{Node}
-use Rattle.lv_values.specs.Worlds.{World, Obeys, Grows, Gives, IsIn, number, width_of as wide_of}
+use Rattle.lv_values.specs.Worlds.{World, Obeys, Gives, IsIn, number, width_of as wide_of}
 use Rattle.lv_values.proofs.Growth.{grows-refl, grows-trans, obeys-before, gives-is, gives-same, number-lt}
 use Rattle.lv_lower_exprs.specs.Tables.{IsTable, Shows, AreFirsts, value_at}
-use Rattle.lv_lower_exprs.proofs.Wholes.{signal_in, cell_is, element_is, IsCell, write_whole}
-use Rattle.lv_lower_exprs.proofs.Meant.{table-later}
+use Rattle.lv_lower_exprs.proofs.Wholes.{signal_in, cell_is, element_is, write_whole}
 use Rattle.lv_lower_blocks.specs.declared.aims.Spot.{Spot}
 use Rattle.lv_lower_blocks.specs.declared.aims.Aim.{Aim}
-use Rattle.lv_lower_blocks.specs.Aimed.{Span, span_of, spot_number, bits_at, element_at, place_at, aim_place, IsElement, is_number, is_hit, put_value, put_at, first_number, cell_count, spot_width, IsZero, Puts}
+use Rattle.lv_lower_blocks.specs.Aimed.{span_of, spot_number, bits_at, element_at, place_at, aim_place, IsElement, is_number, is_hit, put_value, put_at, first_number, cell_count, spot_width, IsZero, Puts}
 use Rattle.lv_lower_blocks.specs.Rewritten.{Rewrites}
 use Rattle.lv_lower_blocks.proofs.Rewriting.{rewrites-next, rewritten-table, width-later}
 
@@ -183,7 +182,7 @@ module _ {old new : Net} (S : Signals) (a : Aim) (t u : List ℕ) (x : Value) (a
           let value : value_at w (slice_index u i) ≡ put_value w S a n (value_at w (slice_index t i)) (number w x) =
           r.is w o i more among ∙ (ap (f w) (sym at_j) ∙ (is w j ∙ ap (λ (q : ℕ). put_value w S a n (value_at w (slice_index t q)) (number w x)) at_j)) in
           value ∙ (elim (is_hit w a.element n) as (λ c. is_hit w a.element n ≡ c →
-              (if c then write_bits (value_at w (slice_index t i)) bits (number w x) else value_at w (slice_index t i)) ≡ write v (aim_place w S a) (number w x) name) [
+          (if c then write_bits (value_at w (slice_index t i)) bits (number w x) else value_at w (slice_index t i)) ≡ write v (aim_place w S a) (number w x) name) [
             | true ↦ λ h.
                 let p : aim_place w S a ≡ (let q : Place = record { name = cell_name d.array d j; bits = bits } in q) = aim ∙ hit-place S a w d.array a.element j array l h in
                 let named : name ≡ cell_name d.array d j = ap (λ (q : ℕ). (cell_at (all_cells S) q).name) (sym here) ∙ (cell-named S a.signal d.array j sort refl l).1 in

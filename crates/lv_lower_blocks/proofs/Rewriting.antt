@@ -1,5 +1,5 @@
 -- Tables some of whose nodes are exchanged, one after another.
-use Rattle.std.proofs.Common.{◌≡◌, ℕ, ◌+◌, ◌<◌, ◌≤◌, ◌≢◌, inl, inr, List, length, refl, sym, ◌∙◌, ap, subst, arith, get_or-set_same, get_or-set_other, length-set}
+use Rattle.std.proofs.Common.{◌≡◌, ℕ, ◌+◌, ◌<◌, ◌≤◌, ◌≢◌, inl, inr, List, length, refl, ◌∙◌, ap, subst, arith, get_or-set_same, get_or-set_other, length-set}
 use Rattle.std.specs.Prelude.{slice_index, slice_set}
 use Rattle.std.proofs.lemmas.Bool.{cases_lt}
 use Rattle.lv_netlist.specs.declared.node.Typed.{Typed}
@@ -8,7 +8,7 @@ use Rattle.lv_flat.specs.Cells.{Cell, cell_at}
 use Rattle.lv_values.specs.Worlds.{World, Obeys, Grows}
 use Rattle.lv_values.proofs.Growth.{grows-refl, grows-trans, obeys-before}
 use Rattle.lv_lower_exprs.specs.Tables.{IsTable, value_at}
-use Rattle.lv_lower_blocks.specs.Rewritten.{Rewrites, MayBeTable}
+use Rattle.lv_lower_blocks.specs.Rewritten.{Rewrites}
 
 pub width-later : (old new : Net) (k : ℕ) → Grows old new → k < length old.nodes → width_at new.nodes k ≡ width_at old.nodes k
 width-later old new k g lt = ap (λ (x : Typed). x.width) (g.same k lt)

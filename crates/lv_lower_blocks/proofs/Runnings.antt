@@ -1,6 +1,6 @@
 -- What statements leave of tables, one after another and by a choice.
-use Rattle.std.proofs.Common.{◌≡◌, ℕ, ◌+◌, ◌<◌, ◌≤◌, ◌==◌, Bool, true, false, not, List, [], ◌∷◌, ◌++◌, length, map, take, refl, sym, ◌∙◌, ap, subst, arith}
-use Rattle.std.specs.Prelude.{zero, suc, if◌then◌else◌, slice_index, Result, Ok, Err, OnOk}
+use Rattle.std.proofs.Common.{◌≡◌, ℕ, ◌≤◌, ◌==◌, Bool, true, false, not, List, [], ◌∷◌, ◌++◌, length, map, take, refl, sym, ◌∙◌, ap, subst, arith}
+use Rattle.std.specs.Prelude.{if◌then◌else◌, slice_index, Result, Ok, Err, OnOk}
 use Rattle.std.proofs.lemmas.Bool.Decides.{nat_tests}
 use Rattle.lv_netlist.specs.Net.{Net}
 use Rattle.lv_source.specs.Names.{Valuation}
@@ -10,16 +10,16 @@ use Rattle.lv_flat.specs.Cells.{Cell, cell_at}
 use Rattle.lv_flat.specs.declared.expr.FlatExpr.{FlatExpr}
 use Rattle.lv_flat.specs.declared.stmt.FlatTarget.{FlatTarget}
 use Rattle.lv_flat.specs.Signals.{Signals}
-use Rattle.lv_flat.specs.Judged.{meaning, reading}
+use Rattle.lv_flat.specs.Judged.{reading}
 use Rattle.lv_flat.specs.Executing.{pieces}
 use Rattle.lv_values.specs.declared.value.Value.{Value}
 use Rattle.lv_values.specs.declared.value.Value.TheVariants.{Known, Node}
-use Rattle.lv_values.specs.Worlds.{World, Obeys, Grows, number}
+use Rattle.lv_values.specs.Worlds.{World, Obeys, number}
 use Rattle.lv_values.proofs.Growth.{grows-refl, grows-trans, obeys-before}
 use Rattle.lv_lower_exprs.specs.Tables.{IsTable, Shows, Means, value_at}
 use Rattle.lv_lower_exprs.proofs.Meant.{table-later}
 use Rattle.lv_lower_blocks.specs.declared.aims.Aim.{Aim}
-use Rattle.lv_lower_blocks.specs.Rewritten.{Rewrites, AreAlike, Merges, MayBeTable}
+use Rattle.lv_lower_blocks.specs.Rewritten.{Merges, MayBeTable}
 use Rattle.lv_lower_blocks.specs.Aimed.{aim_place, Writes, MayWrite, Prepares}
 use Rattle.lv_lower_blocks.specs.Running.{Runs, keeps_now, keeps_later}
 use Rattle.lv_lower_blocks.proofs.Rewriting.{rewritten-table}

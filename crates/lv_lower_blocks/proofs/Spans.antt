@@ -1,11 +1,11 @@
 -- Places by the numbers of their selects, and how many bits they have.
-use Rattle.std.proofs.Common.{◌≡◌, ℕ, ◌≤◌, true, false, List, [], ◌∷◌, length, map, refl, sym, ◌∙◌, ap, subst, arith, Option, Some, None, ℤ, pos, negsuc}
+use Rattle.std.proofs.Common.{◌≡◌, ℕ, ◌≤◌, true, false, List, [], ◌∷◌, length, refl, sym, ◌∙◌, ap, Option, Some, None, ℤ, pos, negsuc}
 use Rattle.std.specs.Prelude.{Bool, if◌then◌else◌, decimal}
 use Rattle.std.proofs.lemmas.List.{length-map}
 use Rattle.lv_ast.specs.Names.{at_index}
 use Rattle.lv_source.specs.Names.{Bounds, Declared, Valuation, low, high, width_of, is_signal_sort}
 use Rattle.lv_source.specs.Values.{Chosen}
-use Rattle.lv_source.specs.Places.{Place, within, nowhere_place, bits_of, element, place_by, place_of, bit_selects, lowest, count_of}
+use Rattle.lv_source.specs.Places.{Place, within, nowhere_place, bits_of, element, place_by, place_of, bit_selects, lowest}
 use Rattle.lv_source.specs.Effect.{aimed}
 use Rattle.lv_flat.specs.Signals.{Signals, signal_at}
 use Rattle.lv_values.specs.Worlds.{World}

@@ -1,13 +1,13 @@
 -- A value that is written to the names of a target, from left to right, and the value of an assignment.
-use Rattle.std.proofs.Common.{◌≡◌, ℕ, ◌+◌, ◌<◌, ◌≤◌, ◌/◌, ◌%◌, ◌^◌, zero, suc, max, Bool, List, [], ◌∷◌, ◌++◌, length, map, drop, drop-cons, add-one, get_or, refl, sym, ◌∙◌, ap, subst, arith}
-use Rattle.std.specs.Prelude.{sum, sum_by}
-use Rattle.std.proofs.lemmas.List.Sums.{sum-map, sum_by-cons, sum_by-drop_more, sum_by-take-drop}
+use Rattle.std.proofs.Common.{◌≡◌, ℕ, ◌+◌, ◌<◌, ◌≤◌, ◌/◌, ◌%◌, ◌^◌, zero, suc, max, Bool, List, [], ◌∷◌, length, map, drop, drop-cons, add-one, get_or, refl, sym, ◌∙◌, ap, subst, arith}
+use Rattle.std.specs.Prelude.{sum_by}
+use Rattle.std.proofs.lemmas.List.Sums.{sum-map, sum_by-cons, sum_by-take-drop}
 use Rattle.std.proofs.lemmas.List.Elements.{All-get_or}
 use Rattle.lv_netlist.specs.Net.{Net}
 use Rattle.lv_source.specs.Names.{Valuation}
 use Rattle.lv_source.specs.Places.{Place, write}
 use Rattle.lv_source.specs.Values.{Meaning}
-use Rattle.lv_source.specs.Effect.{Piece, places, bits_in, write_all, assigned}
+use Rattle.lv_source.specs.Effect.{places, bits_in, write_all, assigned}
 use Rattle.lv_flat.specs.Cells.{Cell}
 use Rattle.lv_flat.specs.Signals.{Signals}
 use Rattle.lv_flat.specs.Judged.{meaning}
@@ -15,8 +15,8 @@ use Rattle.lv_flat.specs.Executing.{pieces}
 use Rattle.lv_flat.specs.declared.expr.FlatExpr.{FlatExpr}
 use Rattle.lv_flat.specs.declared.stmt.FlatTarget.{FlatTarget}
 use Rattle.lv_values.specs.declared.value.Value.{Value}
-use Rattle.lv_values.specs.Worlds.{World, Obeys, Grows, Gives, IsIn, number, width_of as wide_of}
-use Rattle.lv_values.proofs.Growth.{grows-refl, grows-trans, obeys-before, in-later}
+use Rattle.lv_values.specs.Worlds.{World, Obeys, Gives, number}
+use Rattle.lv_values.proofs.Growth.{grows-refl, grows-trans, obeys-before}
 use Rattle.lv_lower_exprs.specs.Tables.{IsTable, Shows, Means}
 use Rattle.lv_lower_exprs.proofs.Meant.{means-same, means-one}
 use Rattle.lv_lower_exprs.proofs.Widths.{bits_fixed}
@@ -81,8 +81,8 @@ module _ {cells : List Cell} where
           write v1 place (number w y),
           p.is w v1 o before.1,
           before.2 ∙ (ap (λ bs. write_all v1 (map (aim_place w S) bs) (number w x)) (drop-next S as' i a lt e) ∙
-          (ap (λ d. write_all (write v1 place d) rest (number w x)) (sym value) ∙
-          ap (λ d. write_all (write v1 place (number w y)) (map (aim_place w S) (drop d as')) (number w x)) (sym k))),
+              (ap (λ d. write_all (write v1 place d) rest (number w x)) (sym value) ∙
+              ap (λ d. write_all (write v1 place (number w y)) (map (aim_place w S) (drop d as')) (number w x)) (sym k))),
         );
   }
 

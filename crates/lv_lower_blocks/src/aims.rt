@@ -206,15 +206,7 @@ pub(crate) fn aims(
     };
     match target {
         FlatTarget::Signal(name, ss) => {
-            let a = aim_at(
-                alloc,
-                b,
-                signals,
-                first,
-                table,
-                name.signal,
-                ss.as_slice(),
-            )?;
+            let a = aim_at(alloc, b, signals, first, table, name.signal, ss.as_slice())?;
             let mut found = found;
             found.reserve(1)?;
             found.push_reserved(a);

@@ -114,5 +114,13 @@ pub fn assign(
     ensures { OnOk result (Assigns b.old b.new (declared_all signals.now) (all_cells (declared_all signals.now)) table.old table.new target.now e.now) }
 {
     let p = prepare(alloc, b, signals, first, table, target, e)?;
-    write(alloc, b, signals, first, table, p.aims.as_slice(), p.value.same())
+    write(
+        alloc,
+        b,
+        signals,
+        first,
+        table,
+        p.aims.as_slice(),
+        p.value.same(),
+    )
 }

@@ -87,9 +87,7 @@ pub fn execute(
             let e = x.get();
             let arms = arms.as_slice();
             let c = common_case(signals, e, arms);
-            let selector = value(
-                alloc, b, signals, first, now, e, c.width, c.signed,
-            )?;
+            let selector = value(alloc, b, signals, first, now, e, c.width, c.signed)?;
             let start = base(alloc, b, signals, first, now, done, arms)?;
             let tables = choose_arm(
                 alloc, b, signals, first, now, done, *wild, &c, &selector, arms, start,

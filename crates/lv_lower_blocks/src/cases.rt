@@ -96,12 +96,7 @@ fn free(
 }
 
 /// Whether two values agree outside of the free bits.
-fn agree(
-    b: &mut Builder,
-    x: Value,
-    y: Value,
-    free: Value,
-) -> Result<Value, NoMemory>
+fn agree(b: &mut Builder, x: Value, y: Value, free: Value) -> Result<Value, NoMemory>
     requires x_in { IsIn b.old x }
     requires y_in { IsIn b.old y }
     requires free_in { IsIn b.old free }
@@ -140,9 +135,7 @@ fn fits_label(
     requires table { IsTable b.old (all_cells (declared_all signals.now)) table.now }
     ensures { IfOk result (λ r. Fits b.old b.new (all_cells (declared_all signals.now)) table.now r selector.now (λ x v. fits_label v wild (common_width c.now) x (label_of (declared_all signals.now) label.now))) }
 {
-    let y = value(
-        alloc, b, signals, first, table, label, c.width, c.signed,
-    )?;
+    let y = value(alloc, b, signals, first, table, label, c.width, c.signed)?;
     let mask = free(b, signals, wild, c, label)?;
     let r = agree(b, selector.same(), y, mask)?;
     Ok(r)
@@ -189,9 +182,7 @@ pub(crate) fn fits_one(
 {
     let mut any = zeros(1);
     for label in labels {
-        let r = fits_label(
-            alloc, b, signals, first, table, wild, c, selector, label,
-        )?;
+        let r = fits_label(alloc, b, signals, first, table, wild, c, selector, label)?;
         any = either(b, any, r)?;
     }
     Ok(any)

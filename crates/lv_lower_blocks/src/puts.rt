@@ -69,15 +69,7 @@ fn rewritten(
         Some(spot) => {
             let word = Value::Node(old, width);
             let choices = Choices::Write(word, signal.left, signal.right, x);
-            let r = pick(
-                alloc,
-                b,
-                &[],
-                &choices,
-                &spot.index,
-                spot.signed,
-                spot.down,
-            )?;
+            let r = pick(alloc, b, &[], &choices, &spot.index, spot.signed, spot.down)?;
             Ok(r)
         }
     }

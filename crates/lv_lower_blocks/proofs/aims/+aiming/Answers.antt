@@ -1,4 +1,4 @@
-use Rattle.std.proofs.Common.{rules, ◌≡◌, ℕ, ◌≤◌, true, Bool, List, [], ◌∷◌, ◌++◌, length, map, take, sym, ◌∙◌, ap, subst, arith, refl}
+use Rattle.std.proofs.Common.{rules, ◌≡◌, ◌≤◌, true, Bool, List, [], ◌∷◌, ◌++◌, map, sym, ◌∙◌, ap, subst}
 use Rattle.std.specs.List.{list_all}
 use Rattle.lv_source.specs.Places.{bit_selects}
 use Rattle.lv_flat.specs.declared.expr.FlatSelect.{FlatSelect}
@@ -13,7 +13,7 @@ use Rattle.lv_lower_exprs.specs.Named.{chosen_by, HasElement, are_good_selects}
 use Rattle.lv_lower_exprs.proofs.Meant.{table-later}
 use Rattle.lv_lower_blocks.specs.declared.aims.Aim.{Aim}
 use Rattle.lv_lower_blocks.specs.Aimed.{Aims, Names, pieces_all, chosen_width}
-use Rattle.lv_lower_blocks.proofs.Aiming.{aims-none, aims-then, aims-same, aims-more, pieces-more, take-past}
+use Rattle.lv_lower_blocks.proofs.Aiming.{aims-then, aims-same, aims-more, pieces-more, take-past}
 use Rattle.lv_lower_blocks.proofs.GoodTargets.{good-name, parts-good, part-good}
 use Rattle.lv_lower_blocks.proofs.aims.+aiming.Goals as goal
 

@@ -1,10 +1,10 @@
-use Rattle.std.proofs.Common.{◌≡◌, ℕ, ◌≤◌, true, List, ◌∷◌, map, drop, refl, sym, ◌∙◌, ap, subst, arith, Option, Some}
+use Rattle.std.proofs.Common.{◌≡◌, ◌≤◌, List, ◌∷◌, map, drop, sym, ◌∙◌, ap, subst, arith, Option, Some}
 use Rattle.lv_source.specs.Names.{Bounds, Declared, width_of}
 use Rattle.lv_source.specs.Values.{Chosen}
-use Rattle.lv_source.specs.Places.{lowest, count_of, bit_selects}
+use Rattle.lv_source.specs.Places.{count_of, bit_selects}
 use Rattle.lv_flat.specs.declared.expr.FlatSelect.{FlatSelect}
 use Rattle.lv_flat.specs.Cells.{all_cells}
-use Rattle.lv_flat.specs.Signals.{declared, declared_all, signal_at, bounds_of}
+use Rattle.lv_flat.specs.Signals.{declared_all, signal_at, bounds_of}
 use Rattle.lv_lower_exprs.specs.Named.{chosen_by, HasElement}
 use Rattle.lv_lower_exprs.proofs.Words.{split-first, first-count}
 use Rattle.lv_lower_blocks.specs.declared.aims.Aim.{Aim}

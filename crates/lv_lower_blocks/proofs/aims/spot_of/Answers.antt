@@ -1,6 +1,5 @@
-use Rattle.std.proofs.Common.{◌≡◌, ℕ, ◌-◌, ◌<◌, ◌^◌, true, refl, sym, ◌∙◌, ap, subst, arith, pos}
-use Rattle.std.specs.Prelude.{min, ◌-ℤ◌}
-use Rattle.lv_source.specs.Names.{Valuation}
+use Rattle.std.proofs.Common.{◌≡◌, ℕ, ◌-◌, ◌<◌, ◌^◌, true, sym, ◌∙◌, ap, subst, arith, pos}
+use Rattle.std.specs.Prelude.{◌-ℤ◌}
 use Rattle.lv_source.specs.Values.{number_of}
 use Rattle.lv_flat.specs.declared.expr.FlatExpr.{FlatExpr}
 use Rattle.lv_flat.specs.Signals.{declared_all}

@@ -1,4 +1,4 @@
-use Rattle.std.proofs.Common.{◌≡◌, ℕ, List, ◌∙◌, ap, subst, arith}
+use Rattle.std.proofs.Common.{List, ◌∙◌, ap, subst, arith}
 use Rattle.lv_flat.specs.Cells.{all_cells}
 use Rattle.lv_flat.specs.Signals.{declared_all}
 use Rattle.lv_flat.specs.Executing.{pieces}

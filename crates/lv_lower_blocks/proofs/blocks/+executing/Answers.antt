@@ -1,7 +1,7 @@
-use Rattle.std.proofs.Common.{rules, ◌≡◌, ◌+◌, ◌-◌, ◌<◌, ◌≤◌, ℕ, Bool, true, List, length, map, drop, sym, ◌∙◌, ap, subst, arith, refl}
+use Rattle.std.proofs.Common.{rules, ◌≡◌, ◌+◌, ◌-◌, ◌<◌, ℕ, Bool, true, List, length, map, drop, sym, ◌∙◌, ap, subst, arith, refl}
 use Rattle.std.specs.Prelude.{flat_map, if◌then◌else◌}
 use Rattle.std.specs.List.{list_all, list_any}
-use Rattle.lv_source.specs.Effect.{State, Width, common_of, fits_label}
+use Rattle.lv_source.specs.Effect.{State, Width, fits_label}
 use Rattle.lv_source.specs.Names.{Valuation}
 use Rattle.lv_source.specs.Values.{own_value}
 use Rattle.lv_flat.specs.declared.expr.FlatExpr.{FlatExpr}
@@ -13,7 +13,7 @@ use Rattle.lv_flat.specs.Cells.{all_cells}
 use Rattle.lv_flat.specs.Signals.{Signals, declared_all}
 use Rattle.lv_flat.specs.Judged.{is_good, meaning, reading}
 use Rattle.lv_flat.specs.Good.{good_stmt}
-use Rattle.lv_lower_exprs.specs.Tables.{IsTable, Means}
+use Rattle.lv_lower_exprs.specs.Tables.{IsTable}
 use Rattle.lv_lower_exprs.proofs.Parts.{good-width}
 use Rattle.lv_lower_exprs.proofs.Owns.{own_pair}
 use Rattle.lv_lower_exprs.proofs.Meant.{table-later, means-same}
@@ -21,9 +21,9 @@ use Rattle.lv_lower_blocks.specs.Rewritten.{AreAlike, Merges, MayBeTable}
 use Rattle.lv_lower_blocks.specs.Running.{Runs, keeps_writes, keeps_or, keeps_all, keeps_now, keeps_later}
 use Rattle.lv_values.proofs.Growth.{in-later}
 use Rattle.lv_lower_blocks.specs.Rewritten.{Picks}
-use Rattle.lv_lower_blocks.specs.Cased.{common_width, labels_of, good_labels, good_arm_of, arms_read, arms_do, last_default, ArmsWithin, ArmsRun}
-use Rattle.lv_lower_blocks.proofs.Arming.{case-all, case-good, arm-good, arms-next, arms-none, arms-same, arms-more, arms-skip, runs-case}
-use Rattle.lv_lower_blocks.proofs.Casing.{common-is, rest-within, labels-of-good, arms-within, no-default, default-is, none-behind}
+use Rattle.lv_lower_blocks.specs.Cased.{common_width, labels_of, good_labels, good_arm_of, arms_read, arms_do, last_default}
+use Rattle.lv_lower_blocks.proofs.Arming.{case-all, case-good, arm-good, arms-next, arms-same, arms-more, arms-skip, runs-case}
+use Rattle.lv_lower_blocks.proofs.Casing.{common-is, rest-within, labels-of-good, arms-within, no-default, default-is}
 use Rattle.lv_lower_blocks.proofs.Picking.{chosen-of}
 use Rattle.lv_lower_blocks.proofs.Merging.{tables-alike, may-be-later, may-be-alike}
 use Rattle.lv_lower_blocks.proofs.Keeping.{null-keeps, block-keeps, block-good, if-keeps, if-good, now-keeps, later-keeps, now-good, later-good, good-at, block-more}
@@ -35,9 +35,13 @@ execute-returns-in-Null t c = runs-same (runs-none c.requires.now c.requires.don
 
 pub execute-block-requires : goal.execute-block-requires
 execute-block-requires t c =
-    let S = declared_all c.args.signals.now in
-    (search (rules, the_lemmas), (subst (λ (z : List FlatStmt). list_all (λ (x : Bool). x) (map (good_stmt S) z) ≡ true) (sym c.as_slice.ensures) (block-good S c.args.s.now c.in-Block.body c.in-Block.is c.requires.good),
-    (c.requires.first, (c.requires.now, c.requires.done))))
+    let S = declared_all c.args.signals.now in (
+      search (rules, the_lemmas),
+      (
+        subst (λ (z : List FlatStmt). list_all (λ (x : Bool). x) (map (good_stmt S) z) ≡ true) (sym c.as_slice.ensures) (block-good S c.args.s.now c.in-Block.body c.in-Block.is c.requires.good),
+        (c.requires.first, (c.requires.now, c.requires.done)),
+      ),
+    )
 
 pub execute-returns-in-Block : goal.execute-returns-in-Block
 execute-returns-in-Block t c =

@@ -1,4 +1,4 @@
-use Rattle.std.proofs.Common.{◌≡◌, ◌≤◌, length, map, drop}
+use Rattle.std.proofs.Common.{◌≡◌, ◌≤◌, length, drop}
 use Rattle.std.specs.Prelude.{flat_map}
 use Rattle.lv_source.specs.Effect.{common_of}
 use Rattle.lv_flat.specs.Signals.{declared_all}

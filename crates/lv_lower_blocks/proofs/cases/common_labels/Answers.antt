@@ -1,4 +1,4 @@
-use Rattle.std.proofs.Common.{◌≡◌, ℕ, ◌+◌, ◌-◌, ◌<◌, Bool, length, refl, ap, arith}
+use Rattle.std.proofs.Common.{ℕ, ◌-◌, ◌<◌, Bool, length, refl, ap, arith}
 use Rattle.lv_flat.specs.Signals.{declared_all}
 use Rattle.lv_lower_exprs.proofs.Parts.{good-width}
 use Rattle.lv_lower_blocks.specs.Cased.{common_width}

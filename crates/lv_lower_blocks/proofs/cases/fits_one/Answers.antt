@@ -1,4 +1,3 @@
-use Rattle.std.proofs.Common.{ap}
 use Rattle.lv_source.specs.Effect.{fits_label}
 use Rattle.lv_flat.specs.Signals.{declared_all}
 use Rattle.lv_flat.specs.Executing.{label_of}

@@ -1,6 +1,5 @@
-use Rattle.std.proofs.Common.{rules, ℕ, Bool, refl, ◌∙◌, ap, arith}
+use Rattle.std.proofs.Common.{rules, ℕ, Bool, ap, arith}
 use Rattle.lv_flat.specs.Signals.{declared_all}
-use Rattle.lv_values.specs.declared.value.Value.TheVariants.{Known}
 use Rattle.lv_lower_exprs.proofs.Parts.{good-width}
 use Rattle.lv_lower_blocks.proofs.Casing.{free-lit, free-none, not-literal}
 use Rattle.lv_lower_blocks.proofs.cases.free.Goals as goal

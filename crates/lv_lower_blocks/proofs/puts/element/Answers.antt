@@ -1,4 +1,4 @@
-use Rattle.std.proofs.Common.{rules, refl}
+use Rattle.std.proofs.Common.{rules}
 use Rattle.lv_flat.specs.Signals.{declared, declared_all}
 use Rattle.lv_lower_blocks.proofs.Putting.{element-plain, element-hit, element-miss}
 use Rattle.lv_lower_blocks.proofs.puts.element.Goals as goal

@@ -1,7 +1,7 @@
-use Rattle.std.proofs.Common.{◌≡◌, ℕ, ◌+◌, ◌<◌, ◌≤◌, ◌-◌, true, List, length, take, refl, sym, ◌∙◌, ap, subst, arith}
+use Rattle.std.proofs.Common.{◌≡◌, ℕ, ◌+◌, ◌<◌, ◌-◌, true, List, length, take, refl, sym, ◌∙◌, ap, subst, arith}
 use Rattle.std.specs.Prelude.{slice_index}
 use Rattle.lv_netlist.specs.Net.{width_at}
-use Rattle.lv_source.specs.Names.{Declared, is_clock_sort, is_signal_sort, width_of}
+use Rattle.lv_source.specs.Names.{Declared, is_clock_sort, is_signal_sort}
 use Rattle.lv_flat.specs.Signals.{declared, declared_all, signal_at}
 use Rattle.lv_flat.specs.Cells.{all_cells}
 use Rattle.lv_lower_exprs.specs.Tables.{value_at}
@@ -10,8 +10,7 @@ use Rattle.lv_lower_exprs.proofs.Words.{signal-sort}
 use Rattle.lv_lower_blocks.specs.Aimed.{put_at, put_value, cell_count, first_number}
 use Rattle.lv_lower_blocks.specs.Rewritten.{Rewrites}
 use Rattle.lv_values.specs.Worlds.{number}
-use Rattle.lv_lower_blocks.proofs.Rewriting.{rewrites-none, rewritten-table}
-use Rattle.lv_lower_blocks.proofs.Aiming.{aim-later}
+use Rattle.lv_lower_blocks.proofs.Rewriting.{rewritten-table}
 use Rattle.lv_lower_blocks.proofs.Putting.{puts-nowhere, cells-inside, cells-end, count-some, puts-more, put-at-is, puts-shown}
 use Rattle.lv_lower_blocks.proofs.puts.put.Goals as goal
 

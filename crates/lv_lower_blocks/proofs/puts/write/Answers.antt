@@ -1,4 +1,4 @@
-use Rattle.std.proofs.Common.{◌+◌, ◌-◌, drop, length, refl, arith, ap, ◌∙◌}
+use Rattle.std.proofs.Common.{◌+◌, ◌-◌, refl, arith, ap}
 use Rattle.lv_flat.specs.Signals.{declared_all}
 use Rattle.lv_values.specs.Worlds.{width_of}
 use Rattle.lv_lower_blocks.proofs.Storing.{left-next, left-most, written-more}

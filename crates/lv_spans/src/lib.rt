@@ -2,7 +2,9 @@
 #![tactic(auto)]
 
 mod rule;
-mod spans;
+mod sets;
+mod span;
 
 pub use rule::Rule;
-pub use spans::{Span, Spans};
+pub use sets::BitSet;
+pub use span::Span;

@@ -1,7 +1,7 @@
 use Rattle.std.proofs.Common.{ap, ◌∙◌}
 use Rattle.lv_spans.specs.Sets.{mask_at, is_set}
 use Rattle.lv_spans.proofs.Joined.{mask_at-joined, is_set-joined}
-use Rattle.lv_spans.proofs.spans.Spans.join.Goals as goal
+use Rattle.lv_spans.proofs.sets.BitSet.join.Goals as goal
 
 pub returns : goal.returns
 returns c = λ q i.

@@ -2,7 +2,7 @@ use Rattle.std.proofs.Common.{rules}
 use Rattle.std.specs.Map.Iter.{deref_pair}
 use Rattle.std.proofs.lemmas.Map.Iter.{rest_more}
 use Rattle.lv_spans.proofs.Joined.{put-right, put-stays, put-more}
-use Rattle.lv_spans.proofs.spans.put.Goals as goal
+use Rattle.lv_spans.proofs.sets.put.Goals as goal
 
 pub loop-cell-preserved : goal.loop-cell-preserved
 loop-cell-preserved c =

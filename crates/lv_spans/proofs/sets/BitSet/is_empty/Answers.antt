@@ -5,7 +5,7 @@ use Rattle.std.specs.Map.Iter.{deref_pair}
 use Rattle.std.proofs.lemmas.Map.Views.{All-turn}
 use Rattle.lv_spans.specs.Sets.{order, is_set}
 use Rattle.lv_spans.proofs.Joined.{some-bit}
-use Rattle.lv_spans.proofs.spans.Spans.is_empty.Goals as goal
+use Rattle.lv_spans.proofs.sets.BitSet.is_empty.Goals as goal
 
 pub returns-then-mask-ne0-clause-some : goal.returns-then-mask-ne0-clause-some
 returns-then-mask-ne0-clause-some c = λ e.

@@ -2,7 +2,7 @@ use Rattle.std.proofs.Common.{◌≡◌, true, ◌||◌, is_some, IfSome}
 use Rattle.std.specs.BTreeMap.{get, is_at}
 use Rattle.std.specs.Map.{lookup}
 use Rattle.lv_spans.specs.Sets.{Cell, order, mask_at, joined_masks}
-use Rattle.lv_spans.proofs.spans.put.Given as goal
+use Rattle.lv_spans.proofs.sets.put.Given as goal
 
 abbrev pub invariant-loop-cell : goal.invariant-loop-cell
 invariant-loop-cell l =

@@ -2,7 +2,7 @@ use Rattle.std.proofs.Common.{◌≡◌, unwrap_or}
 use Rattle.std.specs.BTreeMap.{get, is_at}
 use Rattle.std.specs.Map.{lookup}
 use Rattle.lv_spans.specs.Sets.{Cell, order}
-use Rattle.lv_spans.proofs.spans.Spans.is_empty.Given as goal
+use Rattle.lv_spans.proofs.sets.BitSet.is_empty.Given as goal
 
 abbrev pub invariant-loop-cell : goal.invariant-loop-cell
 invariant-loop-cell l =

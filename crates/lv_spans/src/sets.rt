@@ -4,21 +4,14 @@ ghost use Rattle.std.specs.BTreeMap.{get, IsEmpty};
 ghost use Rattle.lv_spans.specs.Sets.{Cell, order, mask_at, has, is_set, is_under, joined, joined_masks};
 
 use crate::rule::Rule;
+use crate::span::Span;
 use lv_bits::NoMemory;
 use std::alloc::Global;
 use std::collections::BTreeMap;
 
-/// Bits of a signal: of one element, or with `None` of the whole signal where it is no array, and else of every element.
-#[derive(Copy, Clone, Drop)]
-pub struct Span {
-    pub signal: u64,
-    pub element: Option<u64>,
-    pub mask: u128,
-}
-
 /// A set of bits: masks by signal and element. The mask under `None` is that of each element that has none of its own.
 #[derive(Drop)]
-pub struct Spans {
+pub struct BitSet {
     masks: BTreeMap<(u64, Option<u64>), u128>,
 }
 
@@ -38,8 +31,8 @@ fn mask_of(masks: &BTreeMap<(u64, Option<u64>), u128>, cell: (u64, Option<u64>))
 fn put(
     into: BTreeMap<(u64, Option<u64>), u128>,
     keys: &BTreeMap<(u64, Option<u64>), u128>,
-    a: &Spans,
-    b: &Spans,
+    a: &BitSet,
+    b: &BitSet,
     rule: Rule,
 ) -> Result<BTreeMap<(u64, Option<u64>), u128>, NoMemory>
     requires right { (q : Cell) → IfSome (get order into q) (λ v. v ≡ joined_masks rule (mask_at a.now.masks q) (mask_at b.now.masks q)) }
@@ -55,32 +48,32 @@ fn put(
     Ok(made)
 }
 
-impl Spans {
+impl BitSet {
     /// The empty set.
-    pub fn new(alloc: Global) -> Spans
+    pub fn new(alloc: Global) -> BitSet
         ensures { (q : Cell) (i : ℕ) → has result.masks q i ≡ false }
     {
-        Spans {
+        BitSet {
             masks: BTreeMap::new(alloc),
         }
     }
 
     /// The set of one span's bits.
-    pub fn of(alloc: Global, span: Span) -> Result<Spans, NoMemory>
+    pub fn of(alloc: Global, span: Span) -> Result<BitSet, NoMemory>
         ensures { IfOk result (λ r. (q : Cell) (i : ℕ) → has r.masks q i ≡ (is_under span.signal span.element q && is_set span.mask i)) }
     {
         let mut masks = BTreeMap::new(alloc);
         masks.insert((span.signal, span.element), span.mask)?;
-        Ok(Spans { masks })
+        Ok(BitSet { masks })
     }
 
     /// The bits of either set, of both, or of this one alone.
-    pub fn join(&self, alloc: Global, other: &Spans, rule: Rule) -> Result<Spans, NoMemory>
+    pub fn join(&self, alloc: Global, other: &BitSet, rule: Rule) -> Result<BitSet, NoMemory>
         ensures { IfOk result (λ r. (q : Cell) (i : ℕ) → has r.masks q i ≡ joined rule (has self.now.masks q i) (has other.now.masks q i)) }
     {
         let masks = put(BTreeMap::new(alloc), &self.masks, self, other, rule)?;
         let masks = put(masks, &other.masks, self, other, rule)?;
-        Ok(Spans { masks })
+        Ok(BitSet { masks })
     }
 
     /// Whether the set has no bit.
@@ -97,7 +90,7 @@ impl Spans {
     }
 
     /// Whether some bit is in both sets.
-    pub fn meets(&self, alloc: Global, other: &Spans) -> Result<bool, NoMemory>
+    pub fn meets(&self, alloc: Global, other: &BitSet) -> Result<bool, NoMemory>
         ensures apart { IfOk result (λ r. r ≡ false → (q : Cell) (i : ℕ) → (has self.now.masks q i && has other.now.masks q i) ≡ false) }
         ensures meet { IfOk result (λ r. r ≡ true → (q : Cell) × (i : ℕ) × ((has self.now.masks q i && has other.now.masks q i) ≡ true)) }
     {
@@ -106,7 +99,7 @@ impl Spans {
     }
 
     /// Whether each bit of the other set is in this one.
-    pub fn covers(&self, alloc: Global, other: &Spans) -> Result<bool, NoMemory>
+    pub fn covers(&self, alloc: Global, other: &BitSet) -> Result<bool, NoMemory>
         ensures covered { IfOk result (λ r. r ≡ true → (q : Cell) (i : ℕ) → (has other.now.masks q i && not (has self.now.masks q i)) ≡ false) }
         ensures left_out { IfOk result (λ r. r ≡ false → (q : Cell) × (i : ℕ) × ((has other.now.masks q i && not (has self.now.masks q i)) ≡ true)) }
     {

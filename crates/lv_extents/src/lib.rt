@@ -1,0 +1,6 @@
+//! What the rules on parts need of a flat design: of each part sets of bits as spans, and no trees.
+#![tactic(auto)]
+
+mod extent;
+
+pub use extent::{Aim, Extent, Step, Way};

@@ -1,12 +1,12 @@
 -- Which bits there are, and which lists of bits sets stand for.
-use Rattle.std.specs.Prelude.{◌≡◌, ◌<◌, ◌^◌, ℕ, Bool, true, false, not, ◌&&◌, ◌==◌, nat_lt, List, Option, Some, None, All, decimal}
+use Rattle.std.specs.Prelude.{◌≡◌, ◌<◌, ◌^◌, ℕ, Bool, true, false, ◌&&◌, nat_lt, List, Option, Some, None, All, decimal}
 use Rattle.std.specs.List.{list_any}
 use Rattle.lv_ast.specs.Names.{Name, at_index}
 use Rattle.lv_source.specs.Names.{Bounds, Declared, low, high, width_of, is_signal_sort}
 use Rattle.lv_source.specs.Places.{Bit, has_bit, within}
 use Rattle.lv_flat.specs.Signals.{Signals, signal_at}
 use Rattle.lv_spans.specs.declared.span.Span.{Span}
-use Rattle.lv_spans.specs.Sets.{Cell, is_set, is_under}
+use Rattle.lv_spans.specs.Sets.{Cell, Masks, entry_at, has, is_set, is_under}
 
 -- the number is that of an element, or the signal is no array and has none
 abbrev pub is_element_in : Option Bounds → Option ℕ → Bool
@@ -50,3 +50,15 @@ pub record IsSpan (S : Signals) (s : Span) : Type 0 where
 pub record AreSpansOf (S : Signals) (bits : List Bit) (xs : List Span) : Type 0 where
   pub set : IsSetOf S bits (spans_have xs)
   pub each : All (IsSpan S) xs
+
+-- no table has bits but those that there are
+abbrev pub IsWithin : Signals → Masks → Type 0
+IsWithin S m = (q : Cell) (v : ℕ) → entry_at m q ≡ Some v → IsSpan S (record { signal = q.0; element = q.1; mask = v })
+
+-- some bit that there is, of a span and in a set
+abbrev pub Meets : Signals → Masks → Span → Type 0
+Meets S m s = (q : Cell) × (i : ℕ) × (is_bit S q i ≡ true) × (is_under s.signal s.element q ≡ true) × (is_set s.mask i ≡ true) × (has m q i ≡ true)
+
+-- some bit that there is, of a span and not in a set
+abbrev pub Exceeds : Signals → Masks → Span → Type 0
+Exceeds S m s = (q : Cell) × (i : ℕ) × (is_bit S q i ≡ true) × (is_under s.signal s.element q ≡ true) × (is_set s.mask i ≡ true) × (has m q i ≡ false)

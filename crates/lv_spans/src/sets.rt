@@ -1,109 +1,101 @@
 // The sets.
-ghost use Rattle.std.specs.Prelude.{◌≡◌, ℕ, true, false, ◌&&◌, ◌||◌, not, Some, None, OnOk, IfOk, IfSome, is_some};
-ghost use Rattle.std.specs.BTreeMap.{get, IsEmpty};
-ghost use Rattle.lv_spans.specs.Sets.{Cell, order, mask_at, has, is_set, is_under, joined, joined_masks};
+ghost use Rattle.std.specs.Prelude.{◌≡◌, ◌<◌, ◌^◌, ℕ, true, false, ◌&&◌, ◌||◌, Some, None, OnOk, IfOk, length, unwrap_or, bit_or, max, min};
+ghost use Rattle.std.specs.BTreeMap.{get};
+ghost use Rattle.std.specs.Ordering.{nat_cmp};
+ghost use Rattle.lv_source.specs.Names.{width_of};
+ghost use Rattle.lv_flat.specs.Signals.{Signals, declared_all};
+ghost use Rattle.lv_spans.specs.Sets.{Cell, order, own_at, mask_at, has, is_set, is_under};
+ghost use Rattle.lv_spans.specs.Domain.{IsSpan, IsWithin, Meets, Exceeds};
+ghost use Rattle.lv_spans.specs.Touched.{AreTouched};
 
-use crate::rule::Rule;
 use crate::span::Span;
 use lv_bits::NoMemory;
+use lv_flat::Signal;
 use std::alloc::Global;
 use std::collections::BTreeMap;
+use std::marker::Model;
 
-/// A set of bits: masks by signal and element. The mask under `None` is that of each element that has none of its own.
+/// A set of bits: masks by signal and element. What stands under `None` is in each element of an array. Contracts see the masks.
 #[derive(Drop)]
 pub struct BitSet {
     masks: BTreeMap<(u64, Option<u64>), u128>,
+    /// For each signal the places at which some cell has a bit.
+    touched: BTreeMap<u64, u128>,
 }
 
-fn mask_of(masks: &BTreeMap<(u64, Option<u64>), u128>, cell: (u64, Option<u64>)) -> u128
-    ensures { result ≡ mask_at masks.now cell }
+impl Model for BitSet {
+    ghost use Rattle.lv_spans.specs.Sets.{Masks};
+    ghost use Rattle.lv_spans.specs.Touched.{AreTouched};
+
+    ghost Value = { Masks };
+
+    ghost view = { λ s. s.masks.entries };
+
+    ghost invariant = { λ s. AreTouched s.masks.entries s.touched };
+}
+
+fn own_mask(masks: &BTreeMap<(u64, Option<u64>), u128>, cell: (u64, Option<u64>)) -> u128
+    ensures { result ≡ own_at masks.now.entries cell }
 {
     match masks.get(&cell) {
         Some(mask) => *mask,
-        None => match masks.get(&(cell.0, None)) {
-            Some(mask) => *mask,
-            None => 0,
-        },
+        None => 0,
     }
 }
 
-/// The masks of `a` and `b`, joined at each key of `keys` and put into `into`.
-fn put(
-    into: BTreeMap<(u64, Option<u64>), u128>,
-    keys: &BTreeMap<(u64, Option<u64>), u128>,
-    a: &BitSet,
-    b: &BitSet,
-    rule: Rule,
-) -> Result<BTreeMap<(u64, Option<u64>), u128>, NoMemory>
-    requires right { (q : Cell) → IfSome (get order into q) (λ v. v ≡ joined_masks rule (mask_at a.now.masks q) (mask_at b.now.masks q)) }
-    ensures right { IfOk result (λ r. (q : Cell) → IfSome (get order r q) (λ v. v ≡ joined_masks rule (mask_at a.now.masks q) (mask_at b.now.masks q))) }
-    ensures kept { IfOk result (λ r. (q : Cell) → is_some (get order into q) ≡ true → is_some (get order r q) ≡ true) }
-    ensures has_keys { IfOk result (λ r. (q : Cell) → is_some (get order keys.now q) ≡ true → is_some (get order r q) ≡ true) }
+fn touched_mask(touched: &BTreeMap<u64, u128>, signal: u64) -> u128
+    ensures { result ≡ unwrap_or (get nat_cmp touched.now signal) 0 }
 {
-    let mut made = into;
-    for (cell, _) in keys {
-        let mask = rule.join(mask_of(&a.masks, *cell), mask_of(&b.masks, *cell));
-        made.insert(*cell, mask)?;
+    match touched.get(&signal) {
+        Some(mask) => *mask,
+        None => 0,
     }
-    Ok(made)
 }
 
 impl BitSet {
     /// The empty set.
     pub fn new(alloc: Global) -> BitSet
-        ensures { (q : Cell) (i : ℕ) → has result.masks q i ≡ false }
+        ensures none { (q : Cell) (i : ℕ) → has result q i ≡ false }
+        ensures within { (S : Signals) → IsWithin S result }
     {
         BitSet {
             masks: BTreeMap::new(alloc),
+            touched: BTreeMap::new(alloc),
         }
     }
 
-    /// The set of one span's bits.
-    pub fn of(alloc: Global, span: Span) -> Result<BitSet, NoMemory>
-        ensures { IfOk result (λ r. (q : Cell) (i : ℕ) → has r.masks q i ≡ (is_under span.signal span.element q && is_set span.mask i)) }
+    /// The mask of a cell: an element of an array, or with `None` a signal that is none.
+    pub fn mask(&self, signal: u64, element: Option<u64>) -> u128
+        ensures { result ≡ mask_at self.now (signal, element) }
     {
-        let mut masks = BTreeMap::new(alloc);
-        masks.insert((span.signal, span.element), span.mask)?;
-        Ok(BitSet { masks })
+        own_mask(&self.masks, (signal, element)) | own_mask(&self.masks, (signal, None))
     }
 
-    /// The bits of either set, of both, or of this one alone.
-    pub fn join(&self, alloc: Global, other: &BitSet, rule: Rule) -> Result<BitSet, NoMemory>
-        ensures { IfOk result (λ r. (q : Cell) (i : ℕ) → has r.masks q i ≡ joined rule (has self.now.masks q i) (has other.now.masks q i)) }
+    /// With the bits of a span too, in the time of a look-up.
+    pub fn add(self, span: Span) -> Result<BitSet, NoMemory>
+        ensures added { IfOk result (λ r. (q : Cell) (i : ℕ) → has r q i ≡ (has self q i || (is_under span.signal span.element q && is_set span.mask i))) }
+        ensures within { IfOk result (λ r. (S : Signals) → IsWithin S self → IsSpan S span → IsWithin S r) }
     {
-        let masks = put(BTreeMap::new(alloc), &self.masks, self, other, rule)?;
-        let masks = put(masks, &other.masks, self, other, rule)?;
-        Ok(BitSet { masks })
+        let BitSet {
+            mut masks,
+            mut touched,
+        } = self;
+        let cell = (span.signal, span.element);
+        let mask = own_mask(&masks, cell) | span.mask;
+        let all = touched_mask(&touched, span.signal) | span.mask;
+        masks.insert(cell, mask)?;
+        touched.insert(span.signal, all)?;
+        Ok(BitSet { masks, touched })
     }
 
-    /// Whether the set has no bit.
-    pub fn is_empty(&self) -> bool
-        ensures none { result ≡ true → (q : Cell) (i : ℕ) → has self.now.masks q i ≡ false }
-        ensures some { result ≡ false → (q : Cell) × (i : ℕ) × (has self.now.masks q i ≡ true) }
+    /// Whether some bit of the span is in the set, in the time of a look-up.
+    pub fn meets(&self, span: Span) -> bool
+        ensures meet { result ≡ true → (S : Signals) → IsWithin S self.now → IsSpan S span → Meets S self.now span }
+        ensures apart { result ≡ false → (q : Cell) (i : ℕ) → (is_under span.signal span.element q && (is_set span.mask i && has self.now q i)) ≡ false }
     {
-        for (cell, mask) in &self.masks {
-            if *mask != 0 {
-                return false;
-            }
+        match span.element {
+            Some(_) => self.mask(span.signal, span.element) & span.mask != 0,
+            None => touched_mask(&self.touched, span.signal) & span.mask != 0,
         }
-        true
-    }
-
-    /// Whether some bit is in both sets.
-    pub fn meets(&self, alloc: Global, other: &BitSet) -> Result<bool, NoMemory>
-        ensures apart { IfOk result (λ r. r ≡ false → (q : Cell) (i : ℕ) → (has self.now.masks q i && has other.now.masks q i) ≡ false) }
-        ensures meet { IfOk result (λ r. r ≡ true → (q : Cell) × (i : ℕ) × ((has self.now.masks q i && has other.now.masks q i) ≡ true)) }
-    {
-        let both = self.join(alloc, other, Rule::Shared)?;
-        Ok(!both.is_empty())
-    }
-
-    /// Whether each bit of the other set is in this one.
-    pub fn covers(&self, alloc: Global, other: &BitSet) -> Result<bool, NoMemory>
-        ensures covered { IfOk result (λ r. r ≡ true → (q : Cell) (i : ℕ) → (has other.now.masks q i && not (has self.now.masks q i)) ≡ false) }
-        ensures left_out { IfOk result (λ r. r ≡ false → (q : Cell) × (i : ℕ) × ((has other.now.masks q i && not (has self.now.masks q i)) ≡ true)) }
-    {
-        let rest = other.join(alloc, self, Rule::Minus)?;
-        Ok(rest.is_empty())
     }
 }

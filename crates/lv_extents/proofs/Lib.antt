@@ -1,7 +1,9 @@
 mod Apart
 mod Constants
+mod Lists
 mod Named
 mod Readings
 mod Runs
 mod Spans
+mod Steps
 mod Worlds

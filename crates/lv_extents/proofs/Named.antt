@@ -1,12 +1,12 @@
 -- The bits that a name with selects may stand for, as spans.
-use Rattle.std.proofs.Common.{◌≡◌, ℕ, zero, suc, ◌+◌, ◌<◌, ◌≤◌, Bool, true, false, not, ◌&&◌, ◌||◌, List, [], ◌∷◌, ◌++◌, map, flat_map, length, refl, sym, ◌∙◌, ap, subst, arith, Option, Some, None, ℤ, pos, negsuc}
+use Rattle.std.proofs.Common.{◌≡◌, ℕ, zero, suc, ◌+◌, ◌-◌, ◌^◌, ◌<◌, ◌≤◌, Bool, true, false, not, ◌&&◌, ◌||◌, List, [], ◌∷◌, ◌++◌, map, flat_map, length, refl, sym, ◌∙◌, ap, subst, arith, Option, Some, None, ℤ, pos, negsuc}
 use Rattle.std.specs.Prelude.{if◌then◌else◌, nat_le, nat_lt, decimal}
 use Rattle.std.specs.List.{list_all}
 use Rattle.std.proofs.lemmas.Bool.Decides.{nat_tests}
 use Rattle.lv_ast.specs.Names.{Name, at_index}
 use Rattle.lv_source.specs.Names.{Bounds, Declared, low, high, width_of, is_signal_sort}
 use Rattle.lv_source.specs.Values.{Chosen, nowhere}
-use Rattle.lv_source.specs.Places.{Bit, has_bit, some_bit, Place, place_bits, place_by, place_of, nowhere_place, element, bits_of, bit_selects, count_of, lowest, whole, within}
+use Rattle.lv_source.specs.Places.{Bit, has_bit, some_bit, Place, place_bits, place_by, place_of, nowhere_place, element, bits_of, all_bits, bit_selects, count_of, lowest, whole, within}
 use Rattle.lv_source.specs.Meaning.{Choice, meant, bits_named, all_constant}
 use Rattle.lv_source.specs.NodeRules.{is_width, is_array_fault, is_select_fault, is_good_step, is_bit_step, most_steps}
 use Rattle.lv_source.proofs.Tests.{and-left, and-right}
@@ -16,14 +16,15 @@ use Rattle.lv_flat.specs.Cells.{all_cells, AreDistinct}
 use Rattle.lv_flat.specs.Signals.{Signals, signal_at}
 use Rattle.lv_flat.specs.Judged.{judge, judge_select, JudgedSelect, step_of, good_selects}
 use Rattle.lv_flat.proofs.Widths.{width-least, width-most}
-use Rattle.lv_values.specs.Windows.{run}
+use Rattle.lv_values.specs.Windows.{run, somes}
+use Rattle.lv_values.proofs.Windows.{somes-more}
 use Rattle.lv_spans.specs.declared.span.Span.{Span}
 use Rattle.lv_spans.specs.Domain.{is_cell, name_by, AreSpansOf}
 use Rattle.lv_lower_exprs.specs.Named.{chosen_by}
 use Rattle.lv_lower_exprs.proofs.Naming.{chosen-map}
 use Rattle.lv_extents.specs.Adds.{Adds, IsRun, IsFixed, AreFixed, spans_of, taken}
 use Rattle.lv_extents.proofs.Runs.{run-has, in_run, no-run, never}
-use Rattle.lv_extents.proofs.Spans.{none-of, one-span, whole-span, adds-none, adds-spans}
+use Rattle.lv_extents.proofs.Spans.{none-of, one-span, whole-span, adds-none, adds-spans, append-nil}
 
 not-true : (a : Bool) → not a ≡ true → a ≡ false
 not-true true h = cc
@@ -163,12 +164,17 @@ module _ (S : Signals) where
       let c : nat_lt (high b) i ≡ false = grind (arith, nat_tests) in
       rw h (rw e (rw a (rw c refl)))
 
+  some-spans : (k : ℕ) (el : Option ℕ) (low n : ℕ) → 0 < n → spans_of k el low n ≡ record { signal = k; element = el; mask = 2 ^ (low + n) - 2 ^ low } ∷ []
+  some-spans k el low zero h = absurd (omega (arith, h))
+  some-spans k el low (suc n) h = refl
+
   pub adds-whole : AreDistinct (all_cells S) → (old new : List Span) (k w : ℕ) (cs : List Choice) → is_signal_sort (signal_at S k).sort ≡ true → all_constant cs ≡ false → w ≡ width_of (signal_at S k) →
       new ≡ old ++ spans_of k None 0 w → Adds S old new (bits_named (signal_at S k) cs)
   adds-whole distinct old new k w cs h c e f =
       adds-same old new (bits_named (signal_at S k) cs) (whole (signal_at S k)) (named-whole (signal_at S k) cs h c)
       (subst (λ (x : List Span). Adds S old x (whole (signal_at S k))) (sym (f ∙ ap (λ n. old ++ spans_of k None 0 n) e))
-      (adds-spans S old (spans_of k None 0 (width_of (signal_at S k))) (whole (signal_at S k)) (whole-span S distinct k h)))
+      (adds-spans S old (spans_of k None 0 (width_of (signal_at S k))) (whole (signal_at S k))
+      (subst (λ (x : List Span). AreSpansOf S (whole (signal_at S k)) x) (sym (some-spans k None 0 (width_of (signal_at S k)) (omega arith))) (whole-span S distinct k h))))
 
   pub adds-scalar : AreDistinct (all_cells S) → (old new : List Span) (k low n : ℕ) (ss : List FlatSelect) → is_signal_sort (signal_at S k).sort ≡ true → (signal_at S k).array ≡ None → all_constant (taken S ss) ≡ true →
       IsRun (bits_of (signal_at S k) (map (chosen_by S) ss) nowhere) (width_of (signal_at S k)) low n → new ≡ old ++ spans_of k None low n → Adds S old new (bits_named (signal_at S k) (taken S ss))
@@ -185,3 +191,25 @@ module _ (S : Signals) where
 
   pub adds-nothing : (old new : List Span) (bits : List Bit) → bits ≡ [] → new ≡ old → Adds S old new bits
   adds-nothing old new bits e f = adds-same old new bits [] e (subst (λ (x : List Span). Adds S old x []) (sym f) (adds-none S old))
+
+  -- ---- all bits
+
+  whole-somes : (n : ℕ) → all_bits n ≡ somes 0 n
+  whole-somes zero = refl
+  whole-somes (suc n) = ap (λ ks. ks ++ Some n ∷ []) (whole-somes n) ∙ (let e : n ≡ 0 + n = omega arith in ap (λ k. somes 0 n ++ Some k ∷ []) e ∙ sym (somes-more 0 n))
+
+  pub run-whole : (d : Declared) (ss : List FlatSelect) (w : ℕ) → length ss < 1 → w ≡ width_of d → IsRun (bits_of d (map (chosen_by S) ss) nowhere) (width_of d) 0 w
+  run-whole d [] w h e = record {
+    before = 0;
+    after = 0;
+    is = whole-somes (width_of d) ∙ (ap (somes 0) (sym e) ∙ sym (append-nil (somes 0 w)));
+    most = omega (arith, e);
+  }
+  run-whole d (x ∷ xs) w h e = absurd (omega (arith, h))
+
+  pub bounds-same : (k : ℕ) (d : Declared) (o : Option Bounds) (b c : Bounds) → signal_at S k ≡ d → d.array ≡ o → o ≡ Some c → (signal_at S k).array ≡ Some b → c ≡ b
+  bounds-same k d o b c e f g h = ap (λ (x : Option Bounds). the x) (sym g ∙ (sym f ∙ (ap (λ (x : Declared). x.array) (sym e) ∙ h)))
+    where
+      the : Option Bounds → Bounds
+      the None = b
+      the (Some x) = x

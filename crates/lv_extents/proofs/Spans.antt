@@ -1,11 +1,12 @@
 -- Spans that have the bits of a list.
-use Rattle.std.proofs.Common.{◌≡◌, ℕ, zero, suc, ◌+◌, ◌-◌, ◌^◌, ◌<◌, ◌≤◌, Bool, true, false, not, ◌&&◌, ◌||◌, ◌==◌, List, [], ◌∷◌, ◌++◌, map, flat_map, refl, sym, ◌∙◌, ap, subst, arith, Option, Some, None, inl, inr}
+use Rattle.std.proofs.Common.{◌≡◌, ℕ, zero, suc, ◌+◌, ◌-◌, ◌^◌, ◌<◌, ◌≤◌, ◌⊎◌, Bool, true, false, not, ◌&&◌, ◌||◌, ◌==◌, List, [], ◌∷◌, ◌++◌, map, flat_map, refl, sym, ◌∙◌, ap, subst, arith, Option, Some, None, inl, inr}
 use Rattle.std.specs.Prelude.{nat_lt, bytes_eq, decimal, All}
 use Rattle.std.specs.List.{list_any, range_with_len}
+use Rattle.std.proofs.lemmas.Bool.{cases_lt}
 use Rattle.std.proofs.lemmas.Bool.Decides.{nat_tests}
 use Rattle.std.proofs.lemmas.List.{append_assoc}
 use Rattle.std.proofs.lemmas.List.Folds.{list_any-append}
-use Rattle.std.proofs.lemmas.List.All.{All-nil, All-cons, All-append}
+use Rattle.std.proofs.lemmas.List.Elements.{All-nil, All-cons, All-append}
 use Rattle.std.proofs.lemmas.Nat.{pow_below, pow_pos}
 use Rattle.std.proofs.lemmas.Slice.Eq.{bytes_eq-Decides}
 use Rattle.lv_ast.specs.Names.{Name, at_index}
@@ -129,14 +130,14 @@ two-true false b h k = h
 bit-same : (b : Bit) (n : Name) → bytes_eq b.name n ≡ true → record { name = n; place = b.place } ≡ b
 bit-same b n h = ap (λ m. record { name = m; place = b.place }) (sym ((bytes_eq-Decides b.name n).0 h))
 
+below-or-same : (a b : ℕ) → a ≤ b → (a < b) ⊎ (a ≡ b)
+below-or-same a b le = elim (cases_lt a b) [ | inl lt ↦ inl lt | inr ge ↦ inr (omega (arith, le, ge)) ]
+
+pub pow-up : (a b : ℕ) → a ≤ b → 2 ^ a ≤ 2 ^ b
+pow-up a b le = elim (below-or-same a b le) [ | inl lt ↦ let p = pow_below a b lt in omega (arith, p) | inr e ↦ let f = ap (λ x. 2 ^ x) e in omega (arith, f) ]
+
 smaller : (lo hi w : ℕ) → lo < hi → hi ≤ w → 2 ^ hi - 2 ^ lo < 2 ^ w
-smaller lo hi w h k = let p = pow_pos lo in let q = pow-up hi w k in let r = pow_pos hi in omega arith
-  where
-    pow-up : (a b : ℕ) → a ≤ b → 2 ^ a ≤ 2 ^ b
-    pow-up a b le = elim (cases a b le) [ | inl lt ↦ let p = pow_below a b lt in omega arith | inr e ↦ let f = ap (λ x. 2 ^ x) e in omega arith ]
-      where
-        cases : (a b : ℕ) → a ≤ b → (a < b) ⊎ (a ≡ b)
-        cases a b le = omega arith
+smaller lo hi w h k = let p = pow_pos lo in let q = pow-up hi w k in let r = pow_pos hi in omega (arith, p, q, r)
 
 module _ (S : Signals) (distinct : AreDistinct (all_cells S)) where
   under-name : (q : Cell) (k : ℕ) (el : Option ℕ) → is_cell S q ≡ true → is_cell S (k, el) ≡ true →
@@ -156,13 +157,13 @@ module _ (S : Signals) (distinct : AreDistinct (all_cells S)) where
       inside = λ x t.
           let e = sym (run-has (name_by (signal_at S k).path el) b lo n a x) ∙ t in
           let lt = run-most lo n x.place (and-right _ _ e) in
-          ((k, el), x.place, two-true _ _ h (lt-true x.place (width_of (signal_at S k)) (omega arith)), bit-same x (name_by (signal_at S k).path el) (and-left _ _ e));
+          ((k, el), x.place, two-true _ _ h (lt-true x.place (width_of (signal_at S k)) (omega (arith, lt, fit))), bit-same x (name_by (signal_at S k).path el) (and-left _ _ e));
     };
     each = All-cons (IsSpan S) _ [] (record {
       signal = and-left _ _ h;
       element = λ j e. subst (λ (x : Option ℕ). is_cell S (k, x) ≡ true) e h;
       wide = smaller lo (lo + n) (width_of (signal_at S k)) (omega arith) fit;
-      some = let p = pow_below lo (lo + n) (omega arith) in omega arith;
+      some = let p = pow_below lo (lo + n) (omega arith) in omega (arith, p);
     }) (All-nil (IsSpan S));
   }
 
@@ -201,7 +202,7 @@ module _ (S : Signals) (distinct : AreDistinct (all_cells S)) where
   ]
     where
       parts : (lo i : ℕ) → lo ≤ i → (lo ≡ i) ⊎ (lo < i)
-      parts lo i h = omega arith
+      parts lo i h = elim (cases_lt lo i) [ | inl lt ↦ inr lt | inr ge ↦ inl (omega (arith, h, ge)) ]
       or-true : (a b : Bool) → a ≡ true → (a || b) ≡ true
       or-true true b h = refl
       or-true false b h = cc
@@ -257,12 +258,12 @@ module _ (S : Signals) (distinct : AreDistinct (all_cells S)) where
               let e = sym (whole-has d x) ∙ t in
               let f = found d.array d.path x.name (and-left _ _ e) in
               let lt = run-most 0 w x.place (and-right _ _ e) in
-              ((k, f.element), x.place, two-true _ _ (two-true _ _ h f.fits) (lt-true x.place w (omega arith)), ap (λ m. record { name = m; place = x.place }) (sym f.same));
+              ((k, f.element), x.place, two-true _ _ (two-true _ _ h f.fits) (lt-true x.place w (omega (arith, lt))), ap (λ m. record { name = m; place = x.place }) (sym f.same));
         };
         each = All-cons (IsSpan S) _ [] (record {
           signal = h;
           element = λ j e. cc;
           wide = smaller 0 (0 + w) w (omega arith) (omega arith);
-          some = let p = pow_below 0 (0 + w) (omega arith) in omega arith;
+          some = let p = pow_below 0 (0 + w) (omega arith) in omega (arith, p);
         }) (All-nil (IsSpan S));
       }

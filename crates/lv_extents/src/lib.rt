@@ -3,7 +3,6 @@
 
 mod constant;
 mod extent;
-mod reads;
 mod run;
 
 pub use extent::{Aim, Extent, Step, Way};

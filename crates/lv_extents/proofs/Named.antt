@@ -1,7 +1,8 @@
 -- The bits that a name with selects may stand for, as spans.
-use Rattle.std.proofs.Common.{◌≡◌, ℕ, zero, suc, ◌+◌, ◌-◌, ◌^◌, ◌<◌, ◌≤◌, Bool, true, false, not, ◌&&◌, ◌||◌, List, [], ◌∷◌, ◌++◌, map, flat_map, length, refl, sym, ◌∙◌, ap, subst, arith, Option, Some, None, ℤ, pos, negsuc}
+use Rattle.std.proofs.Common.{◌≡◌, ℕ, zero, suc, ◌+◌, ◌-◌, ◌^◌, ◌<◌, ◌≤◌, Bool, true, false, not, ◌&&◌, ◌||◌, List, [], ◌∷◌, ◌++◌, map, flat_map, length, take, drop, refl, sym, ◌∙◌, ap, subst, arith, Option, Some, None, ℤ, pos, negsuc}
 use Rattle.std.specs.Prelude.{if◌then◌else◌, nat_le, nat_lt, decimal}
 use Rattle.std.specs.List.{list_all}
+use Rattle.std.proofs.Math.Seq.{take-length}
 use Rattle.std.proofs.lemmas.Bool.Decides.{nat_tests}
 use Rattle.lv_ast.specs.Names.{Name, at_index}
 use Rattle.lv_source.specs.Names.{Bounds, Declared, low, high, width_of, is_signal_sort}
@@ -20,11 +21,15 @@ use Rattle.lv_values.specs.Windows.{run, somes}
 use Rattle.lv_values.proofs.Windows.{somes-more}
 use Rattle.lv_spans.specs.declared.span.Span.{Span}
 use Rattle.lv_spans.specs.Domain.{is_cell, name_by, AreSpansOf}
-use Rattle.lv_lower_exprs.specs.Named.{chosen_by}
+use Rattle.lv_lower_exprs.specs.Named.{chosen_by, is_good_select, are_good_selects}
 use Rattle.lv_lower_exprs.proofs.Naming.{chosen-map}
 use Rattle.lv_extents.specs.Adds.{Adds, IsRun, IsFixed, AreFixed, spans_of, taken}
 use Rattle.lv_extents.proofs.Runs.{run-has, in_run, no-run, never}
 use Rattle.lv_extents.proofs.Spans.{none-of, one-span, whole-span, adds-none, adds-spans, append-nil}
+
+pub whole-rest : {A : Type 0} (xs : List A) → take (length xs - 1) (drop 1 xs) ≡ drop 1 xs
+whole-rest [] = refl
+whole-rest (x ∷ xs) = let n : length (x ∷ xs) - 1 ≡ length xs = omega arith in ap (λ k. take k xs) n ∙ take-length xs
 
 not-true : (a : Bool) → not a ≡ true → a ≡ false
 not-true true h = cc
@@ -129,6 +134,7 @@ module _ (S : Signals) where
     where
       least : (l h i : ℕ) → within l h i ≡ true → l ≤ i
       least l h i t = grind (arith, nat_tests)
+
       most : (l h i : ℕ) → within l h i ≡ true → i ≤ h
       most l h i t = grind (arith, nat_tests)
 
@@ -213,3 +219,10 @@ module _ (S : Signals) where
       the : Option Bounds → Bounds
       the None = b
       the (Some x) = x
+
+  goods-of : (ss : List FlatSelect) → list_all (λ (c : JudgedSelect). c.good) (map (judge_select S) ss) ≡ are_good_selects S ss
+  goods-of [] = refl
+  goods-of (x ∷ xs) = ap (λ u. is_good_select S x && u) (goods-of xs)
+
+  pub selects-good : (d : Declared) (ss : List FlatSelect) → good_selects d (map (judge_select S) ss) ≡ true → are_good_selects S ss ≡ true
+  selects-good d ss g = sym (goods-of ss) ∙ goods d ss g

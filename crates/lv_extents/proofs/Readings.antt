@@ -187,5 +187,8 @@ module _ (S : Signals) where
   good-select-at (y ∷ ys) zero x lt h g = ap (is_good_select S) h ∙ and-left (is_good_select S y) (are_good_selects S ys) g
   good-select-at (y ∷ ys) (suc i) x lt h g = good-select-at ys i x (omega (arith, lt)) h (and-right (is_good_select S y) (are_good_selects S ys) g)
 
-pub all-three : {x y a b c r : Bool} → x ≡ a → a ≡ b → y ≡ c → r ≡ (b && c) → (x && y) ≡ r
-all-three {y = y} {b = b} h i k e = ap (λ u. u && y) (h ∙ i) ∙ (ap (λ u. b && u) k ∙ sym e)
+pub both-constant : {x y b c r : Bool} → x ≡ b → y ≡ c → r ≡ (b && c) → (x && y) ≡ r
+both-constant {y = y} {b = b} h k e = ap (λ u. u && y) h ∙ (ap (λ u. b && u) k ∙ sym e)
+
+pub all-three : {x y z a b c r : Bool} → x ≡ a → y ≡ b → z ≡ c → r ≡ (a && (b && c)) → (x && (y && z)) ≡ r
+all-three h k l e = both-constant h (both-constant k l refl) e

@@ -87,6 +87,9 @@ module _ (S : Signals) where
         sym (list_any-append (same_bit b) bits (n ++ m)))) (p.adds bits h);
   }
 
+  pub adds-from : (start y : List Span) (m : List Bit) → start ≡ [] → Adds S start y m → AreSpansOf S m y
+  adds-from start y m e p = (subst (λ (x : List Span). Adds S x y m) e p).adds [] (none-of S [] (λ b. refl))
+
   pub adds-all : (y : List Span) (m : List Bit) → Adds S [] y m → AreSpansOf S m y
   adds-all y m p = p.adds [] (none-of S [] (λ b. refl))
 
@@ -131,10 +134,10 @@ bit-same : (b : Bit) (n : Name) → bytes_eq b.name n ≡ true → record { name
 bit-same b n h = ap (λ m. record { name = m; place = b.place }) (sym ((bytes_eq-Decides b.name n).0 h))
 
 below-or-same : (a b : ℕ) → a ≤ b → (a < b) ⊎ (a ≡ b)
-below-or-same a b le = elim (cases_lt a b) [ | inl lt ↦ inl lt | inr ge ↦ inr (omega (arith, le, ge)) ]
+below-or-same a b le = elim (cases_lt a b) [ inl lt ↦ inl lt | inr ge ↦ inr (omega (arith, le, ge)) ]
 
 pub pow-up : (a b : ℕ) → a ≤ b → 2 ^ a ≤ 2 ^ b
-pow-up a b le = elim (below-or-same a b le) [ | inl lt ↦ let p = pow_below a b lt in omega (arith, p) | inr e ↦ let f = ap (λ x. 2 ^ x) e in omega (arith, f) ]
+pow-up a b le = elim (below-or-same a b le) [ inl lt ↦ let p = pow_below a b lt in omega (arith, p) | inr e ↦ let f = ap (λ x. 2 ^ x) e in omega (arith, f) ]
 
 smaller : (lo hi w : ℕ) → lo < hi → hi ≤ w → 2 ^ hi - 2 ^ lo < 2 ^ w
 smaller lo hi w h k = let p = pow_pos lo in let q = pow-up hi w k in let r = pow_pos hi in omega (arith, p, q, r)
@@ -202,10 +205,12 @@ module _ (S : Signals) (distinct : AreDistinct (all_cells S)) where
   ]
     where
       parts : (lo i : ℕ) → lo ≤ i → (lo ≡ i) ⊎ (lo < i)
-      parts lo i h = elim (cases_lt lo i) [ | inl lt ↦ inr lt | inr ge ↦ inl (omega (arith, h, ge)) ]
+      parts lo i h = elim (cases_lt lo i) [ inl lt ↦ inr lt | inr ge ↦ inl (omega (arith, h, ge)) ]
+
       or-true : (a b : Bool) → a ≡ true → (a || b) ≡ true
       or-true true b h = refl
       or-true false b h = cc
+
       or-last : (a b : Bool) → b ≡ true → (a || b) ≡ true
       or-last true b h = refl
       or-last false b h = h
@@ -248,11 +253,11 @@ module _ (S : Signals) (distinct : AreDistinct (all_cells S)) where
               (ap (λ u. is_under k None q && u) (mask-has 0 w i) ∙
               (ap (λ u. u && in_run 0 w i) (from-iff (is_under k None q) (list_any (bytes_eq (name_by (signal_at S q.0).path q.1)) (cells d))
               (λ u. let e : q.0 ≡ k = of-eq q.0 k u in
-                  subst (λ (j : ℕ). list_any (bytes_eq (name_by (signal_at S q.0).path q.1)) (cells (signal_at S j)) ≡ true) e
-                  (finds (signal_at S q.0).array (signal_at S q.0).path q.1 (and-right _ _ (and-left _ _ t))))
+              subst (λ (j : ℕ). list_any (bytes_eq (name_by (signal_at S q.0).path q.1)) (cells (signal_at S j)) ≡ true) e
+              (finds (signal_at S q.0).array (signal_at S q.0).path q.1 (and-right _ _ (and-left _ _ t))))
               (λ u. let f = found d.array d.path (name_by (signal_at S q.0).path q.1) u in
-                  let c : is_cell S (k, f.element) ≡ true = two-true _ _ h f.fits in
-                  eq-true q.0 k (ap (λ (x : Cell). x.0) (same-name S distinct q (k, f.element) (and-left _ _ t) c ((bytes_eq-Decides _ _).1 f.same))))) ∙
+              let c : is_cell S (k, f.element) ≡ true = two-true _ _ h f.fits in
+              eq-true q.0 k (ap (λ (x : Cell). x.0) (same-name S distinct q (k, f.element) (and-left _ _ t) c ((bytes_eq-Decides _ _).1 f.same))))) ∙
               sym (whole-has d (bit_of S q i))));
           inside = λ x t.
               let e = sym (whole-has d x) ∙ t in

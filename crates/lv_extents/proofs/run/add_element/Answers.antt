@@ -1,4 +1,4 @@
-use Rattle.std.proofs.Common.{◌≡◌, ℕ, ◌≤◌, ◌∙◌, Option, Some, sym, ap, subst, arith, refl, pos, map}
+use Rattle.std.proofs.Common.{◌≡◌, ℕ, ◌≤◌, ◌<◌, ◌∙◌, Option, Some, sym, ap, subst, arith, refl, pos, map}
 use Rattle.std.specs.Prelude.{nat_le, min, max}
 use Rattle.std.proofs.lemmas.Bool.Decides.{nat_tests}
 use Rattle.lv_source.specs.Names.{Bounds, low, high, width_of}
@@ -8,7 +8,8 @@ use Rattle.lv_flat.specs.Signals.{declared, declared_all, signal_at, bounds_of}
 use Rattle.lv_values.specs.Windows.{integer}
 use Rattle.lv_lower_exprs.specs.Named.{chosen_by}
 use Rattle.lv_extents.specs.Adds.{IsRun}
-use Rattle.lv_extents.proofs.Named.{bounds-same, adds-element, adds-nothing, element-out}
+use Rattle.lv_extents.proofs.Named.{bounds-same, adds-element, adds-nothing, element-out, element-below}
+use Rattle.lv_extents.proofs.run.add_element.Goals.{else-from-i-via-then-from-i+else-i-from, else-from-i-via-else-from-i}
 use Rattle.lv_extents.proofs.run.add_element.Goals as goal
 
 pub returns-in_ok-add_run : goal.returns-in_ok-add_run
@@ -26,7 +27,23 @@ returns-in_ok-add_run c = λ b e.
     c.in_ok-add_run.ensures
 
 pub returns-else-from-i : goal.returns-else-from-i
-returns-else-from-i c = λ b e. ?
+returns-else-from-i c = λ b e.
+    let S = declared_all c.args.signals.now in
+    let same : record { left = c.in-Some.left; right = c.in-Some.right } ≡ b =
+    bounds-same S c.args.k (declared c.signal_of-signal.result.now) (bounds_of c.signal_of-signal.result.now.array) b _ c.signal_of-signal.ensures refl (ap bounds_of c.in-Some.is) e in
+    let l = ap low same in
+    let h = ap high same in
+    let z = sym c.in_ok-z.ensures ∙ ap integer c.in-Above.is in
+    adds-nothing S c.args.into.now c.args.into.now _ (element-out S (signal_at S c.args.k) b (chosen_by S c.args.s.now) (map (chosen_by S) c.args.rest.now) c.in-Above.i z (λ p q.
+    elim c.else-from-i.branch [
+      | else-from-i-via-then-from-i+else-i-from w ↦
+          let f : high b < c.in-Above.i = grind (arith, nat_tests, h, w.max.ensures, w.from-then-from-i.ensures, w.if-i-from.false) in omega (arith, f, q)
+      | else-from-i-via-else-from-i w ↦
+          let f : c.in-Above.i < low b = grind (arith, nat_tests, l, c.min.ensures, c.from.ensures, w.if-from-i.false) in omega (arith, f, p)
+    ])) refl
 
 pub returns-in_default-z : goal.returns-in_default-z
-returns-in_default-z c = λ b e. ?
+returns-in_default-z c = λ b e.
+    let S = declared_all c.args.signals.now in
+    adds-nothing S c.args.into.now c.args.into.now _ (element-below S (signal_at S c.args.k) b (chosen_by S c.args.s.now) (map (chosen_by S) c.args.rest.now) c.in_default-z.field-0
+    (sym c.in_ok-z.ensures ∙ ap integer c.in_default-z.is)) refl

@@ -1,6 +1,7 @@
 -- The steps of a statement, by the form of the tree.
-use Rattle.std.proofs.Common.{◌≡◌, ℕ, Bool, true, false, List, [], ◌∷◌, ◌++◌, map, flat_map, refl, sym, ◌∙◌, ap, subst, Option, Some, None}
+use Rattle.std.proofs.Common.{◌≡◌, ℕ, Bool, true, false, ◌&&◌, List, [], ◌∷◌, ◌++◌, map, flat_map, refl, sym, ◌∙◌, ap, subst, Option, Some, None}
 use Rattle.std.specs.Prelude.{if◌then◌else◌}
+use Rattle.std.specs.List.{list_all}
 use Rattle.std.proofs.lemmas.List.{map-append}
 use Rattle.std.proofs.lemmas.Grind.{flat_map-append}
 use Rattle.lv_source.specs.Names.{Declared}
@@ -28,8 +29,14 @@ use Rattle.lv_extents.specs.declared.extent.Aim.{Aim}
 use Rattle.lv_extents.specs.declared.extent.Step.{Step}
 use Rattle.lv_extents.specs.Extents.{Each, IsAim, IsStep}
 use Rattle.lv_extents.specs.Adds.{AddsAims, AddsSteps, piece_of, taken}
-use Rattle.lv_extents.specs.Blocks.{all_events, arm_flow, label_reads, look_at}
-use Rattle.lv_extents.proofs.Lists.{each-one}
+use Rattle.lv_extents.specs.Blocks.{all_events, arm_flow, are_good_arms, label_reads, look_at}
+use Rattle.lv_source.proofs.Tests.{and-left, and-right}
+use Rattle.lv_flat.specs.Good.{good_stmt, good_target, are_targets}
+use Rattle.lv_flat.specs.Judged.{is_good}
+use Rattle.lv_flat.proofs.GoodParts.{good-Block, good-If, good-If_else, good-Case, good-Now, good-Later}
+use Rattle.lv_flat.proofs.Widths.{target-names}
+use Rattle.lv_extents.proofs.Spans.{append-nil}
+use Rattle.lv_extents.proofs.Lists.{each-one, each-as, each-then, each-none}
 
 -- ---- one aim, one step
 
@@ -61,7 +68,7 @@ branch-events c h x y = by c.constant refl
     by false e = rw e refl
 
 module _ (S : Signals) where
-  abbrev seen : FlatStmt → List Seen
+  abbrev pub seen : FlatStmt → List Seen
   seen x = map seen_of (flow S x).events
 
   of-flow : (x : FlatStmt) (y : FlatStmt) (f : Flow) → x ≡ y → flow S y ≡ f → seen x ≡ map seen_of f.events
@@ -109,3 +116,57 @@ module _ (S : Signals) where
 
   pub seen-Later : (x : FlatStmt) (t : FlatTarget) (v : FlatExpr) (place : ℕ) → x ≡ b.Later t v place → seen x ≡ map seen_of (write_flow false (pieces S t) (reading S v) place).events
   seen-Later x t v place e = of-flow x (b.Later t v place) _ e (flow-Later S t v place)
+
+  -- ---- what is good of the parts
+
+  if-parts : (x : FlatStmt) (c : FlatExpr) (s : FlatStmt) (o : Option FlatStmt) → x ≡ b.If c s o → good_stmt S x ≡ true → (is_good S c ≡ true) × (good_stmt S s ≡ true)
+  if-parts x c s None e g =
+      let k = sym (ap (good_stmt S) e ∙ good-If S c s) ∙ g in
+      (and-left (is_good S c) (good_stmt S s && true) k, and-left (good_stmt S s) true (and-right (is_good S c) (good_stmt S s && true) k))
+  if-parts x c s (Some t) e g =
+      let k = sym (ap (good_stmt S) e ∙ good-If_else S c s t) ∙ g in
+      (and-left (is_good S c) (good_stmt S s && good_stmt S t) k, and-left (good_stmt S s) (good_stmt S t) (and-right (is_good S c) (good_stmt S s && good_stmt S t) k))
+
+  pub if-good : (x : FlatStmt) (c : FlatExpr) (s : FlatStmt) (o : Option FlatStmt) → x ≡ b.If c s o → good_stmt S x ≡ true → (is_good S c ≡ true) × (good_stmt S s ≡ true)
+  if-good x c s o e g = if-parts x c s o e g
+
+  pub else-good : (x : FlatStmt) (c : FlatExpr) (s : FlatStmt) (o : Option FlatStmt) (t : FlatStmt) → x ≡ b.If c s o → o ≡ Some t → good_stmt S x ≡ true → good_stmt S t ≡ true
+  else-good x c s o t e h g =
+      let k = sym (ap (good_stmt S) (e ∙ ap (λ p. b.If c s p) h) ∙ good-If_else S c s t) ∙ g in
+      and-right (good_stmt S s) (good_stmt S t) (and-right (is_good S c) (good_stmt S s && good_stmt S t) k)
+
+  pub block-good : (x : FlatStmt) (body : List FlatStmt) → x ≡ b.Block body → good_stmt S x ≡ true → list_all (λ (y : Bool). y) (map (good_stmt S) body) ≡ true
+  block-good x body e g = sym (ap (good_stmt S) e ∙ good-Block S body) ∙ g
+
+  pub case-good : (x : FlatStmt) (wild : Bool) (c : FlatExpr) (arms : List FlatArm) → x ≡ b.Case wild c arms → good_stmt S x ≡ true → (is_good S c ≡ true) × (are_good_arms S arms ≡ true)
+  case-good x wild c arms e g =
+      let k = sym (ap (good_stmt S) e ∙ good-Case S wild c arms) ∙ g in
+      (and-left (is_good S c) (are_good_arms S arms) k, and-right (is_good S c) (are_good_arms S arms) k)
+
+  pub now-good : (x : FlatStmt) (t : FlatTarget) (v : FlatExpr) (place : ℕ) → x ≡ b.Now t v place → good_stmt S x ≡ true → (are_targets S t ≡ true) × (is_good S v ≡ true)
+  now-good x t v place e g =
+      let k = sym (ap (good_stmt S) e ∙ good-Now S t v place) ∙ g in
+      (target-names S t (and-left (good_target S t) (is_good S v) k), and-right (good_target S t) (is_good S v) k)
+
+  pub later-good : (x : FlatStmt) (t : FlatTarget) (v : FlatExpr) (place : ℕ) → x ≡ b.Later t v place → good_stmt S x ≡ true → (are_targets S t ≡ true) × (is_good S v ≡ true)
+  later-good x t v place e g =
+      let k = sym (ap (good_stmt S) e ∙ good-Later S t v place) ∙ g in
+      (target-names S t (and-left (good_target S t) (is_good S v) k), and-right (good_target S t) (is_good S v) k)
+
+  pub arm-good : (a : FlatArm) → (list_all (is_good S) a.labels && good_stmt S a.body) ≡ true → good_stmt S a.body ≡ true
+  arm-good a g = and-right (list_all (is_good S) a.labels) (good_stmt S a.body) g
+
+  all-map : {A : Type 0} (p : A → Bool) (xs : List A) → list_all p xs ≡ list_all (λ (y : Bool). y) (map p xs)
+  all-map p [] = refl
+  all-map p (x ∷ xs) = ap (λ u. p x && u) (all-map p xs)
+
+  pub labels-good : (a : FlatArm) → (list_all (is_good S) a.labels && good_stmt S a.body) ≡ true → list_all (λ (y : Bool). y) (map (is_good S) a.labels) ≡ true
+  labels-good a g = sym (all-map (is_good S) a.labels) ∙ and-left (list_all (is_good S) a.labels) (good_stmt S a.body) g
+
+  -- ---- an `if`, put together
+
+  pub if-adds : (x : FlatStmt) (R : List Bit) (p q r s : List Step) (A B : List Seen) → seen x ≡ look_at R ∷ (A ++ B) → AddsSteps S p q (look_at (R ++ []) ∷ []) → AddsSteps S q r A → AddsSteps S r s B → AddsSteps S p s (seen x)
+  if-adds x R p q r s A B e l a b' = each-as (IsStep S) p s _ _ (e ∙ ap (λ bs. look_at bs ∷ (A ++ B)) (sym (append-nil R))) (each-then (IsStep S) l (each-then (IsStep S) a b'))
+
+  pub if-adds-one : (x : FlatStmt) (R : List Bit) (p q r : List Step) (A : List Seen) → seen x ≡ look_at R ∷ (A ++ []) → AddsSteps S p q (look_at (R ++ []) ∷ []) → AddsSteps S q r A → AddsSteps S p r (seen x)
+  if-adds-one x R p q r A e l a = if-adds x R p q r r A [] e l a (each-none (IsStep S) r)

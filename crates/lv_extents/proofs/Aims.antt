@@ -1,12 +1,11 @@
 -- Targets, by the form of the tree, and what is good of them.
-use Rattle.std.proofs.Common.{◌≡◌, ℕ, zero, suc, ◌+◌, ◌<◌, Bool, true, ◌&&◌, List, [], ◌∷◌, ◌++◌, map, flat_map, take, length, get_or, refl, sym, ◌∙◌, ap, subst, arith}
+use Rattle.std.proofs.Common.{◌≡◌, ℕ, zero, suc, ◌+◌, ◌<◌, Bool, true, List, [], ◌∷◌, ◌++◌, map, flat_map, take, length, get_or, sym, ◌∙◌, ap, arith}
 use Rattle.std.specs.List.{list_all}
 use Rattle.std.proofs.lemmas.List.{map-append}
 use Rattle.std.proofs.lemmas.Grind.{flat_map-append}
 use Rattle.lv_source.specs.Places.{Bit}
 use Rattle.lv_source.specs.Meaning.{index_reads}
 use Rattle.lv_source.specs.Effect.{Piece}
-use Rattle.lv_source.specs.Views as views
 use Rattle.lv_source.specs.Views.{aim_of}
 use Rattle.lv_source.specs.Parts.{is_declared_sort}
 use Rattle.lv_source.proofs.Tests.{and-left, and-right}

@@ -1,12 +1,8 @@
 -- A constant expression is judged alike whatever signals there are.
-use Rattle.std.proofs.Common.{◌≡◌, ℕ, Bool, true, false, not, ◌&&◌, List, [], ◌∷◌, map, refl, ap, ◌∙◌, sym}
+use Rattle.std.proofs.Common.{◌≡◌, Bool, true, not, ◌&&◌, List, [], ◌∷◌, map, refl, ap, ◌∙◌}
 use Rattle.std.specs.List.{list_all}
-use Rattle.lv_bits.specs.Values.{is_unary}
-use Rattle.lv_ast.specs.declared.expr.Expr.TheOpen.{Select-F}
-use Rattle.lv_source.specs.Names.{is_constant_sort}
 use Rattle.lv_source.specs.Meaning.{Reading, all_constant, parts_of}
-use Rattle.lv_source.specs.NodeRules.{is_width, is_array_fault, is_select_fault}
-use Rattle.lv_source.specs.Parts.{is_declared_sort}
+use Rattle.lv_source.specs.NodeRules.{is_width, is_select_fault}
 use Rattle.lv_source.proofs.Tests.{and-left, and-right}
 use Rattle.lv_const.specs.Constants.{constant_of}
 use Rattle.lv_const.proofs.WalkReads.{two-same}
@@ -16,7 +12,7 @@ use Rattle.lv_flat.specs.declared.expr.FlatExpr.TheOpen.{FlatExpr-F, FlatSelect-
 use Rattle.lv_flat.specs.declared.expr.FlatSelect.{FlatSelect}
 use Rattle.lv_flat.specs.declared.expr.FlatSelect.TheVariants as s
 use Rattle.lv_flat.specs.Signals.{Signals, signal_at}
-use Rattle.lv_flat.specs.Judged.{Judged, JudgedSelect, judge_step, judge_choice, judge, readings, choices, layer_good, good_selects, step_of}
+use Rattle.lv_flat.specs.Judged.{Judged, JudgedSelect, judge_step, judge_choice, judge, readings, choices, step_of}
 use Rattle.lv_flat.specs.Trees.{fold_expr, fold_exprs, fold_one, fold_select, fold_selects}
 use Rattle.lv_lower_exprs.proofs.Naming.{never-constant}
 

@@ -1,16 +1,13 @@
 -- The steps of a statement, by the form of the tree.
 use Rattle.std.proofs.Common.{◌≡◌, ℕ, Bool, true, false, ◌&&◌, List, [], ◌∷◌, ◌++◌, map, flat_map, refl, sym, ◌∙◌, ap, subst, Option, Some, None}
-use Rattle.std.specs.Prelude.{if◌then◌else◌}
 use Rattle.std.specs.List.{list_all}
 use Rattle.std.proofs.lemmas.List.{map-append}
 use Rattle.std.proofs.lemmas.Grind.{flat_map-append}
-use Rattle.lv_source.specs.Names.{Declared}
 use Rattle.lv_source.specs.Values.{nowhere}
 use Rattle.lv_source.specs.Places.{Bit}
 use Rattle.lv_source.specs.Meaning.{Reading, bits_named, index_reads, all_constant}
 use Rattle.lv_source.specs.Effect.{Piece, Label, Arm, arm_labels, is_met}
-use Rattle.lv_source.specs.Flow.{Flow, Event, still, all_flows, looks, branches, if_flow, case_flow_of, write_flow}
-use Rattle.lv_source.specs.Views as views
+use Rattle.lv_source.specs.Flow.{Flow, still, all_flows, branches, if_flow, write_flow}
 use Rattle.lv_source.specs.Views.{Seen, aim_of, seen_of}
 use Rattle.lv_flat.specs.declared.expr.FlatExpr.{FlatExpr}
 use Rattle.lv_flat.specs.declared.expr.FlatSelect.{FlatSelect}
@@ -20,7 +17,7 @@ use Rattle.lv_flat.specs.declared.stmt.FlatArm.{FlatArm}
 use Rattle.lv_flat.specs.declared.stmt.FlatStmt.{FlatStmt}
 use Rattle.lv_flat.specs.declared.stmt.FlatStmt.TheVariants as b
 use Rattle.lv_flat.specs.Signals.{Signals, signal_at, sort_of}
-use Rattle.lv_flat.specs.Judged.{reading, judge}
+use Rattle.lv_flat.specs.Judged.{reading}
 use Rattle.lv_flat.specs.Executing.{pieces, label_of}
 use Rattle.lv_flat.specs.Flows.{flow}
 use Rattle.lv_flat.proofs.Effects.{read_arm, flow-Null, flow-Block, flow-If, flow-If_else, flow-Case, flow-Now, flow-Later}

@@ -1,5 +1,5 @@
 -- The bits that a name with selects may stand for, as spans.
-use Rattle.std.proofs.Common.{◌≡◌, ℕ, zero, suc, ◌+◌, ◌-◌, ◌^◌, ◌<◌, ◌≤◌, Bool, true, false, not, ◌&&◌, ◌||◌, List, [], ◌∷◌, ◌++◌, map, flat_map, length, take, drop, refl, sym, ◌∙◌, ap, subst, arith, Option, Some, None, ℤ, pos, negsuc}
+use Rattle.std.proofs.Common.{◌≡◌, ℕ, zero, suc, ◌+◌, ◌-◌, ◌^◌, ◌<◌, ◌≤◌, Bool, true, false, not, ◌&&◌, ◌||◌, List, [], ◌∷◌, ◌++◌, map, flat_map, length, take, drop, refl, sym, ◌∙◌, ap, subst, arith, Option, Some, None, pos, negsuc}
 use Rattle.std.specs.Prelude.{if◌then◌else◌, nat_le, nat_lt, decimal}
 use Rattle.std.specs.List.{list_all}
 use Rattle.std.proofs.Math.Seq.{take-length}
@@ -15,9 +15,9 @@ use Rattle.lv_flat.specs.declared.expr.FlatSelect.{FlatSelect}
 use Rattle.lv_flat.specs.declared.expr.FlatSelect.TheVariants as s
 use Rattle.lv_flat.specs.Cells.{all_cells, AreDistinct}
 use Rattle.lv_flat.specs.Signals.{Signals, signal_at}
-use Rattle.lv_flat.specs.Judged.{judge, judge_select, JudgedSelect, step_of, good_selects}
+use Rattle.lv_flat.specs.Judged.{judge_select, JudgedSelect, step_of, good_selects}
 use Rattle.lv_flat.proofs.Widths.{width-least, width-most}
-use Rattle.lv_values.specs.Windows.{run, somes}
+use Rattle.lv_values.specs.Windows.{somes}
 use Rattle.lv_values.proofs.Windows.{somes-more}
 use Rattle.lv_spans.specs.declared.span.Span.{Span}
 use Rattle.lv_spans.specs.Domain.{is_cell, name_by, AreSpansOf}

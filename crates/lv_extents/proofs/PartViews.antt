@@ -1,5 +1,5 @@
 -- The extent of a part, from that of its targets and steps.
-use Rattle.std.proofs.Common.{◌≡◌, ℕ, Bool, true, false, List, [], ◌∷◌, ◌++◌, map, flat_map, refl, sym, ◌∙◌, ap, subst, Some}
+use Rattle.std.proofs.Common.{◌≡◌, Bool, true, false, List, [], ◌∷◌, ◌++◌, map, flat_map, refl, sym, ◌∙◌, ap, subst}
 use Rattle.std.proofs.lemmas.List.{map-append}
 use Rattle.lv_source.specs.Places.{Bit}
 use Rattle.lv_source.specs.Meaning.{bits_named, index_reads}
@@ -9,7 +9,6 @@ use Rattle.lv_source.specs.Flow.{Event, writes_of, event_writes}
 use Rattle.lv_source.specs.Views as views
 use Rattle.lv_source.specs.Views.{Seen, aim_of, seen_of}
 use Rattle.lv_flat.specs.Signals.{Signals}
-use Rattle.lv_spans.specs.declared.span.Span.{Span}
 use Rattle.lv_spans.specs.Domain.{AreSpansOf}
 use Rattle.lv_source.specs.Flow.{block_writes, block_reads}
 use Rattle.lv_source.specs.Summary.{leaves_latch, exposes_own}

@@ -24,7 +24,7 @@ use Rattle.lv_flat.proofs.Judgements.{judge-Lit, judge-Const, judge-Signal, judg
 use Rattle.lv_spans.specs.declared.span.Span.{Span}
 use Rattle.lv_lower_exprs.proofs.Naming.{never-constant}
 use Rattle.lv_extents.specs.Adds.{Adds, taken}
-use Rattle.lv_extents.proofs.Spans.{append-nil, adds-then, adds-none}
+use Rattle.lv_extents.proofs.Spans.{append-nil}
 
 pub record Same (r : Reading) (c : Bool) (bs : List Bit) : Type 0 where
   pub constant : r.constant ≡ c

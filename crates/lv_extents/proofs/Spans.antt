@@ -1,6 +1,6 @@
 -- Spans that have the bits of a list.
-use Rattle.std.proofs.Common.{◌≡◌, ℕ, zero, suc, ◌+◌, ◌-◌, ◌^◌, ◌<◌, ◌≤◌, ◌⊎◌, Bool, true, false, not, ◌&&◌, ◌||◌, ◌==◌, List, [], ◌∷◌, ◌++◌, map, flat_map, refl, sym, ◌∙◌, ap, subst, arith, Option, Some, None, inl, inr}
-use Rattle.std.specs.Prelude.{nat_lt, bytes_eq, decimal, All}
+use Rattle.std.proofs.Common.{◌≡◌, ℕ, zero, suc, ◌+◌, ◌-◌, ◌^◌, ◌<◌, ◌≤◌, ◌⊎◌, Bool, true, false, ◌&&◌, ◌||◌, List, [], ◌∷◌, ◌++◌, map, flat_map, refl, sym, ◌∙◌, ap, subst, arith, Option, Some, None, inl, inr}
+use Rattle.std.specs.Prelude.{bytes_eq, decimal}
 use Rattle.std.specs.List.{list_any, range_with_len}
 use Rattle.std.proofs.lemmas.Bool.{cases_lt}
 use Rattle.std.proofs.lemmas.Bool.Decides.{nat_tests}
@@ -18,10 +18,10 @@ use Rattle.lv_flat.specs.Signals.{Signals, signal_at}
 use Rattle.lv_values.specs.Windows.{run}
 use Rattle.lv_spans.specs.declared.span.Span.{Span}
 use Rattle.lv_spans.specs.Sets.{Cell, is_set, is_under, is_element}
-use Rattle.lv_spans.specs.Domain.{is_element_in, is_cell, is_bit, name_by, bit_of, spans_have, IsSetOf, IsSpan, AreSpansOf}
+use Rattle.lv_spans.specs.Domain.{is_element_in, is_cell, name_by, bit_of, spans_have, IsSpan, AreSpansOf}
 use Rattle.lv_extents.specs.Adds.{Adds}
 use Rattle.lv_extents.proofs.Apart.{same-name, is-under}
-use Rattle.lv_extents.proofs.Runs.{in_run, run-has, below-has, mask-has, run-most, lt-true, lt-false, of-lt, of-eq, eq-true}
+use Rattle.lv_extents.proofs.Runs.{in_run, run-has, below-has, mask-has, run-most, lt-true, lt-false, of-eq, eq-true}
 
 -- ---- lists of spans
 

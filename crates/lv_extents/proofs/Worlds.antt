@@ -4,13 +4,13 @@ use Rattle.std.specs.Prelude.{if◌then◌else◌, ◌==◌}
 use Rattle.std.proofs.Math.ListN.{get_or-append}
 use Rattle.std.proofs.Math.Seq.{get_or-append_seam}
 use Rattle.lv_bits.specs.Words.{Bits}
-use Rattle.lv_bits.specs.Values.{unary_of, binary_of, extended}
+use Rattle.lv_bits.specs.Values.{unary_of, binary_of}
 use Rattle.lv_const.proofs.WalkReads.{two-same}
 use Rattle.lv_netlist.specs.declared.node.Node.{Node}
 use Rattle.lv_netlist.specs.declared.node.Node.TheVariants.{Input, Reg, Const, Un, Bin, Mux, Slice, Cat, Ext}
 use Rattle.lv_netlist.specs.declared.node.Typed.{Typed}
-use Rattle.lv_netlist.specs.Net.{Net, node_at, width_at, IsRight, IsNet}
-use Rattle.lv_netlist.specs.Run.{no_bits, bits_at, node_bits, values_from, values_of}
+use Rattle.lv_netlist.specs.Net.{Net, node_at, IsRight, IsNet}
+use Rattle.lv_netlist.specs.Run.{bits_at, node_bits, values_from, values_of}
 use Rattle.lv_netlist.specs.Fits.{FitsInputs, FitsState, FitsNodes, AreWords}
 use Rattle.lv_netlist.proofs.Words.{values_fit}
 use Rattle.lv_values.specs.Worlds.{World, Obeys}

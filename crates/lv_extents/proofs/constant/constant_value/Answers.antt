@@ -1,8 +1,8 @@
-use Rattle.std.proofs.Common.{◌≡◌, ◌≤◌, true, List, [], sym, subst, ap, ◌∙◌, arith}
+use Rattle.std.proofs.Common.{◌≤◌, sym, subst, ap, ◌∙◌, arith}
 use Rattle.lv_netlist.specs.Net.{Net}
 use Rattle.lv_source.specs.Values.{nowhere}
 use Rattle.lv_flat.specs.Signals.{declared_all}
-use Rattle.lv_flat.specs.Judged.{Judged, judge}
+use Rattle.lv_flat.specs.Judged.{Judged}
 use Rattle.lv_values.specs.declared.value.Value.{Value}
 use Rattle.lv_values.specs.Worlds.{World, IsKnown, number}
 use Rattle.lv_extents.proofs.Constants.{constant-alike}

@@ -1,5 +1,5 @@
-use Rattle.std.proofs.Common.{◌≡◌, ℕ, ◌-◌, true, sym, subst, ap, ◌∙◌, arith, pos}
-use Rattle.std.specs.Prelude.{◌-ℤ◌, min}
+use Rattle.std.proofs.Common.{◌≡◌, ◌-◌, true, sym, subst, ap, ◌∙◌, arith, pos}
+use Rattle.std.specs.Prelude.{◌-ℤ◌}
 use Rattle.lv_source.specs.Values.{nowhere, number_of}
 use Rattle.lv_flat.specs.declared.expr.FlatExpr.{FlatExpr}
 use Rattle.lv_flat.specs.Signals.{declared_all}

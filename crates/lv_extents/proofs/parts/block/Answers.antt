@@ -1,4 +1,4 @@
-use Rattle.std.proofs.Common.{◌≡◌, ℕ, Bool, sym, ap, ◌∙◌, refl}
+use Rattle.std.proofs.Common.{Bool, ap, ◌∙◌, refl}
 use Rattle.lv_flat.specs.Signals.{declared_all}
 use Rattle.lv_extents.specs.Extents.{IsStep}
 use Rattle.lv_extents.specs.Blocks.{step_aim_spans, step_spans}

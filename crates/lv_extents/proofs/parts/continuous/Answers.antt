@@ -1,5 +1,4 @@
-use Rattle.std.proofs.Common.{◌≡◌, ◌++◌, List, map, sym, subst, ap, ◌∙◌, refl}
-use Rattle.lv_source.specs.Views.{aim_of}
+use Rattle.std.proofs.Common.{◌++◌, List, sym, subst, ap, ◌∙◌, refl}
 use Rattle.lv_source.specs.Flow.{writes_of}
 use Rattle.lv_flat.specs.Signals.{declared_all}
 use Rattle.lv_flat.specs.Executing.{pieces}
@@ -7,7 +6,6 @@ use Rattle.lv_flat.proofs.Widths.{target-names}
 use Rattle.lv_spans.specs.declared.span.Span.{Span}
 use Rattle.lv_spans.specs.Domain.{AreSpansOf}
 use Rattle.lv_extents.specs.Extents.{IsAim}
-use Rattle.lv_extents.specs.declared.extent.Aim.{Aim}
 use Rattle.lv_extents.specs.Blocks.{aim_spans}
 use Rattle.lv_extents.proofs.Spans.{adds-from, adds-then}
 use Rattle.lv_extents.proofs.Lists.{each-from}

@@ -1,7 +1,6 @@
-use Rattle.std.proofs.Common.{◌≡◌, true, ◌&&◌, sym, subst, ap, ◌∙◌, arith}
+use Rattle.std.proofs.Common.{◌≡◌, true, sym, subst, ap, ◌∙◌, arith}
 use Rattle.std.proofs.lemmas.List.{length-map}
 use Rattle.lv_source.specs.Names.{Declared}
-use Rattle.lv_source.specs.Names as names
 use Rattle.lv_source.specs.Views as views
 use Rattle.lv_source.specs.Parts.{is_declared_sort}
 use Rattle.lv_source.proofs.Tests.{and-left, and-right}

@@ -1,8 +1,6 @@
 use Rattle.std.proofs.Common.{ap, ◌∙◌, ◌++◌, List}
 use Rattle.lv_spans.specs.declared.span.Span.{Span}
-use Rattle.lv_extents.specs.declared.extent.Aim.{Aim}
 use Rattle.lv_extents.specs.declared.extent.Step.{Step}
-use Rattle.lv_extents.specs.Blocks.{aim_spans}
 use Rattle.lv_extents.proofs.Lists.{flat-more, grow-none}
 use Rattle.lv_extents.proofs.parts.step_reads.Goals as goal
 

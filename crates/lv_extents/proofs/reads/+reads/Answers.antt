@@ -1,19 +1,18 @@
-use Rattle.std.proofs.Common.{rules, ◌≡◌, ℕ, ◌<◌, ◌&&◌, ◌++◌, Bool, true, false, List, [], ◌∷◌, map, flat_map, take, length, sym, subst, ap, ◌∙◌, arith, get_or}
+use Rattle.std.proofs.Common.{rules, ◌≡◌, ◌++◌, Bool, true, List, map, sym, subst, ap, ◌∙◌}
 use Rattle.std.specs.List.{list_all}
-use Rattle.lv_source.specs.Places.{Bit}
-use Rattle.lv_source.specs.Meaning.{Reading, bits_named, index_reads, all_constant}
+use Rattle.lv_source.specs.Meaning.{bits_named, index_reads, all_constant}
 use Rattle.lv_flat.specs.declared.expr.FlatExpr.{FlatExpr}
 use Rattle.lv_flat.specs.declared.expr.FlatExpr.TheViews.{the_lemmas}
 use Rattle.lv_flat.specs.declared.expr.FlatSelect.{FlatSelect}
 use Rattle.lv_flat.specs.Signals.{declared_all, signal_at}
 use Rattle.lv_flat.specs.Judged.{is_good, reading, judge_select, good_selects}
-use Rattle.lv_lower_exprs.specs.Named.{is_good_select, are_good_selects}
+use Rattle.lv_lower_exprs.specs.Named.{are_good_selects}
 use Rattle.lv_lower_exprs.proofs.Parts.{un-good, bin-good, cond-good, cast-good, div-good, rem-good, cat-good, rep-good, const-good, signal-good}
 use Rattle.lv_lower_exprs.proofs.Naming.{good-Bit, good-Up, good-Down}
 use Rattle.lv_lower_exprs.proofs.Joining.{good-at}
-use Rattle.lv_extents.specs.Adds.{Adds, taken}
+use Rattle.lv_extents.specs.Adds.{taken}
 use Rattle.lv_extents.proofs.Spans.{adds-then, adds-none, adds-swap}
-use Rattle.lv_extents.proofs.Readings.{Same, SameSelect, lit-same, const-same, signal-same, un-same, cast-same, bin-same, div-same, rem-same, cond-same, cat-same, rep-same, bit-same, part-same, up-same, down-same, adds-as, all_reads, are_constant, reads-more, constant-more, index-more, index-constant-more, signal-selects, good-select-at, both-constant, all-three}
+use Rattle.lv_extents.proofs.Readings.{lit-same, const-same, signal-same, un-same, cast-same, bin-same, div-same, rem-same, cond-same, cat-same, rep-same, bit-same, part-same, up-same, down-same, adds-as, all_reads, are_constant, signal-selects, both-constant, all-three}
 use Rattle.lv_extents.proofs.reads.+reads.Goals as goal
 
 pub add_reads-add_index_reads-requires : goal.add_reads-add_index_reads-requires

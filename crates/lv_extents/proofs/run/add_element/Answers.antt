@@ -1,7 +1,6 @@
-use Rattle.std.proofs.Common.{◌≡◌, ℕ, ◌≤◌, ◌<◌, ◌∙◌, Option, Some, sym, ap, subst, arith, refl, pos, map}
-use Rattle.std.specs.Prelude.{nat_le, min, max}
+use Rattle.std.proofs.Common.{◌≡◌, ◌≤◌, ◌<◌, ◌∙◌, sym, ap, subst, arith, refl, map}
 use Rattle.std.proofs.lemmas.Bool.Decides.{nat_tests}
-use Rattle.lv_source.specs.Names.{Bounds, low, high, width_of}
+use Rattle.lv_source.specs.Names.{low, high, width_of}
 use Rattle.lv_source.specs.Values.{nowhere}
 use Rattle.lv_source.specs.Places.{bits_of}
 use Rattle.lv_flat.specs.Signals.{declared, declared_all, signal_at, bounds_of}

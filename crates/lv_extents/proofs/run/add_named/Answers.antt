@@ -1,15 +1,15 @@
-use Rattle.std.proofs.Common.{◌≡◌, ◌≤◌, ◌∷◌, Bool, true, false, not, List, length, drop, map, sym, subst, ap, ◌∙◌, refl, Some, None}
-use Rattle.lv_source.specs.Names.{Declared, width_of, is_signal_sort, is_clock_sort}
+use Rattle.std.proofs.Common.{◌≡◌, ◌∷◌, true, List, drop, map, sym, subst, ap, ◌∙◌, Some}
+use Rattle.lv_source.specs.Names.{Declared, width_of, is_signal_sort}
 use Rattle.lv_source.specs.Values.{nowhere}
 use Rattle.lv_source.specs.Places.{bits_of, place_by, place_bits}
 use Rattle.lv_source.specs.Meaning.{all_constant, bits_named}
 use Rattle.lv_flat.specs.declared.expr.FlatSelect.{FlatSelect}
-use Rattle.lv_flat.specs.Signals.{declared, declared_all, signal_at, bounds_of}
+use Rattle.lv_flat.specs.Signals.{declared_all, signal_at, bounds_of}
 use Rattle.lv_flat.specs.Judged.{judge_select, good_selects}
 use Rattle.lv_lower_exprs.specs.Named.{chosen_by}
 use Rattle.lv_lower_exprs.proofs.Words.{signal-sort, split-first}
-use Rattle.lv_extents.specs.Adds.{Adds, IsRun, IsFixed, AreFixed, taken}
-use Rattle.lv_extents.proofs.Named.{whole-rest, scalar-fixed, first-fixed, rest-fixed, adds-whole, adds-scalar, adds-same, named-fixed}
+use Rattle.lv_extents.specs.Adds.{IsRun, AreFixed, taken}
+use Rattle.lv_extents.proofs.Named.{whole-rest, scalar-fixed, rest-fixed, adds-whole, adds-scalar, adds-same, named-fixed}
 use Rattle.lv_extents.proofs.run.add_named.Goals as goal
 
 pub returns-then-not-fixed : goal.returns-then-not-fixed

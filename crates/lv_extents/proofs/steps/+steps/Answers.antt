@@ -1,4 +1,4 @@
-use Rattle.std.proofs.Common.{rules, ◌≡◌, [], ◌∷◌, ◌++◌, Option, Some, Bool, true, false, ◌&&◌, List, map, sym, subst, ap, ◌∙◌, refl}
+use Rattle.std.proofs.Common.{rules, ◌≡◌, [], ◌∷◌, ◌++◌, Option, Bool, true, false, ◌&&◌, List, map, sym, subst, ap, ◌∙◌}
 use Rattle.std.specs.List.{list_all}
 use Rattle.lv_source.specs.Views.{seen_of}
 use Rattle.lv_flat.specs.declared.expr.FlatExpr.{FlatExpr}
@@ -11,7 +11,7 @@ use Rattle.lv_flat.specs.Judged.{is_good, reading}
 use Rattle.lv_source.specs.Flow.{write_flow}
 use Rattle.lv_flat.specs.Executing.{pieces}
 use Rattle.lv_flat.specs.Flows.{flow}
-use Rattle.lv_flat.specs.Good.{good_stmt, are_targets}
+use Rattle.lv_flat.specs.Good.{good_stmt}
 use Rattle.lv_extents.specs.Extents.{IsStep}
 use Rattle.lv_extents.specs.Blocks.{all_events, arm_flow, are_good_arms, label_reads, look_at}
 use Rattle.lv_extents.proofs.Aims.{good-all-at}

@@ -1,4 +1,4 @@
-use Rattle.std.proofs.Common.{◌≡◌, ◌&&◌, Bool, true, List, map, flat_map, sym, subst, ap, ◌∙◌}
+use Rattle.std.proofs.Common.{◌≡◌, ◌&&◌, Bool, true, List, map, flat_map, sym, subst, ap}
 use Rattle.std.specs.List.{list_all}
 use Rattle.lv_source.specs.Meaning.{Reading}
 use Rattle.lv_flat.specs.declared.expr.FlatExpr.{FlatExpr}

@@ -1,4 +1,4 @@
-use Rattle.std.proofs.Common.{rules, ap, refl, sym}
+use Rattle.std.proofs.Common.{ap, refl, sym}
 use Rattle.lv_source.specs.Names.{Declared}
 use Rattle.lv_flat.specs.Signals.{declared_all, signal_at}
 use Rattle.lv_extents.proofs.Spans.{adds-from}

@@ -1,0 +1,13 @@
+//! What the rules on parts need of a flat design: of each part sets of bits as spans, and no trees.
+#![tactic(auto)]
+
+mod constant;
+mod extent;
+mod parts;
+mod reads;
+mod run;
+mod steps;
+mod target;
+
+pub use extent::{Aim, Extent, Step, Way};
+pub use parts::extents;

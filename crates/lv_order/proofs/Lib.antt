@@ -1,0 +1,7 @@
+mod Lists
+mod Chains
+mod Ranks
+mod Rings
+mod Works
+mod Steps
+mod Turns

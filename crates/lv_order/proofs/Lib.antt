@@ -1,3 +1,4 @@
+mod Rows
 mod Lists
 mod Chains
 mod Ranks

@@ -1,11 +1,18 @@
 -- How far a walk through a graph has come.
-use Rattle.std.specs.Prelude.{◌≡◌, ℕ, ◌+◌, ◌-◌, ◌<◌, ◌≤◌, Bool, true, false, List, [], ◌∷◌, ◌++◌, take, length, slice_index, slice_index_or, Option, Some, None}
+use Rattle.std.specs.Prelude.{◌≡◌, ℕ, ◌+◌, ◌-◌, ◌<◌, ◌≤◌, Bool, true, false, List, [], ◌∷◌, ◌++◌, take, length, slice_index, slice_index_or, Option, Some, None, nat_lt}
+use Rattle.std.specs.List.{list_all}
 use Rattle.lv_order.specs.declared.walk.State.{State}
 use Rattle.lv_order.specs.declared.walk.State.TheVariants.{New, Open, Done}
 use Rattle.lv_order.specs.declared.walk.Turn.{Turn}
 use Rattle.lv_order.specs.declared.walk.Turn.TheVariants.{Goes, Ends, Meets}
 use Rattle.lv_order.specs.declared.walk.Walk.{Walk}
 use Rattle.lv_order.specs.Graphs.{Graph, has, edges_of, goes, are_distinct, leads}
+
+-- ---- edges
+
+-- each edge leads to a vertex
+abbrev pub is_row : ℕ → List ℕ → Bool
+is_row n ws = list_all (λ w. nat_lt w n) ws
 
 -- ---- states
 

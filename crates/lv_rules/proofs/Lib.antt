@@ -1,0 +1,6 @@
+pub mod Lists
+pub mod Signals
+pub mod Touches
+pub mod Answering
+pub mod Found
+pub mod Parts

@@ -7,3 +7,4 @@ mod own;
 mod reach;
 
 pub use expr::value;
+pub use own::{count, is_clock, own as own_of, signal_of, signal_width};

@@ -1,5 +1,5 @@
 -- Cells that the order holds for equal are equal.
-use Rattle.std.proofs.Common.{◌≡◌, true, Some, None, refl, sym, ap, ◌∙◌}
+use Rattle.std.proofs.Common.{◌≡◌, true, Some, None, refl, sym, ap}
 use Rattle.std.proofs.lemmas.Bool.{true≢false}
 use Rattle.std.specs.declared.cmp.Ordering.{Ordering}
 use Rattle.std.specs.Ordering.{nat_cmp, is_eq}
@@ -17,13 +17,10 @@ exact-options (Some x) (Some y) h = ap Some (exact_unsigned x y h)
 pub exact-cells : CmpEqualImpliesEq order
 exact-cells = exact_pairs nat_cmp (option_cmp nat_cmp) exact_unsigned exact-options
 
-is-equal : (o : Ordering) → is_eq o ≡ true → o ≡ Equal
+pub is-equal : (o : Ordering) → is_eq o ≡ true → o ≡ Equal
 is-equal Less h = absurd (true≢false (sym h))
 is-equal Equal h = refl
 is-equal Greater h = absurd (true≢false (sym h))
 
 pub same-cell : (x y : Cell) → is_eq (order x y) ≡ true → x ≡ y
 same-cell x y h = exact-cells x y (is-equal (order x y) h)
-
-pub same-back : (x y : Cell) → is_eq (order x y) ≡ true → is_eq (order y x) ≡ true
-same-back x y h = let p : x ≡ y = same-cell x y h in ap (λ z. is_eq (order z x)) (sym p) ∙ (ap (λ z. is_eq (order x z)) p ∙ h)

@@ -1,2 +1,4 @@
+mod Added
+pub mod Bits
 mod Cells
-mod Joined
+mod Sharing

@@ -1,1 +1,3 @@
+pub mod Domain
 pub mod Sets
+pub mod Touched

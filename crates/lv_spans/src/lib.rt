@@ -1,8 +1,8 @@
-//! Sets of bits of numbered signals, as spans: a signal, an element or every other one, and a mask.
+//! Sets of bits of numbered signals, as spans: a signal, an element or every one, and a mask.
 #![tactic(auto)]
 
-mod rule;
-mod spans;
+mod sets;
+mod span;
 
-pub use rule::Rule;
-pub use spans::{Span, Spans};
+pub use sets::BitSet;
+pub use span::Span;

@@ -1,0 +1,7 @@
+mod Apart
+mod Constants
+mod Named
+mod Readings
+mod Runs
+mod Spans
+mod Worlds

@@ -95,7 +95,7 @@ told_none S f vs xs n h b l = views_none (λ k v. f v) vs (λ k v e.
     let w : k < length xs = slice_get_within xs k m.item m.there in
     (b.each k m.item (omega arith) m.there).clear v m.holds)
 
-path_is : (vs : List View) (k : ℕ) (v : View) → slice_get vs k ≡ Some v → path_of vs k ≡ v.at.path
+pub path_is : (vs : List View) (k : ℕ) (v : View) → slice_get vs k ≡ Some v → path_of vs k ≡ v.at.path
 path_is vs k v e = ap (λ (o : Option View). elim o [ None ↦ [] | Some v ↦ v.at.path ]) e
 
 -- by what is told of the part's view

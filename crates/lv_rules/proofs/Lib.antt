@@ -4,3 +4,5 @@ pub mod Touches
 pub mod Answering
 pub mod Found
 pub mod Parts
+pub mod Sharing
+pub mod Twice

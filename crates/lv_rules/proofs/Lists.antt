@@ -3,8 +3,8 @@ use Rattle.std.proofs.Common.{◌≡◌, ℕ, zero, suc, ◌+◌, ◌<◌, ◌�
 use Rattle.std.specs.Prelude.{flat_map, filter, cond, slice_get, Contains}
 use Rattle.std.specs.List.{list_any}
 use Rattle.std.proofs.lemmas.List.Elements.{Contains-append_left, Contains-append_right}
-use Rattle.std.proofs.lemmas.List.Folds.{list_any-append}
-use Rattle.lv_source.proofs.Tests.{or-left, or-right, or-split, and-left, and-right, and-both}
+use Rattle.std.proofs.lemmas.List.Folds.{list_any-append, list_any_more}
+use Rattle.lv_source.proofs.Tests.{decide, or-left, or-right, or-split, and-left, and-right, and-both}
 
 pub same_tests : (a b : Bool) → (a ≡ true → b ≡ true) → (b ≡ true → a ≡ true) → a ≡ b
 same_tests true b f g = sym (f refl)
@@ -93,3 +93,51 @@ pub record Before {X : Type 0} (P : X → Type 0) (xs : List X) (n : ℕ) : Type
 
 pub before_none : {X : Type 0} (P : X → Type 0) (xs : List X) → Before P xs 0
 before_none P xs = record { each = λ k x l e. absurd (omega arith) }
+
+-- ---- the front of a list
+
+pub record IsFront {X : Type 0} (xs : List X) (n k : ℕ) (x : X) : Type 0 where
+  pub below : k < n
+  pub there : slice_get xs k ≡ Some x
+
+pub take_get : {X : Type 0} (xs : List X) (n k : ℕ) (x : X) → slice_get (take n xs) k ≡ Some x → IsFront xs n k x
+take_get xs zero k x e = cc
+take_get [] (suc n) k x e = cc
+take_get (y ∷ xs) (suc n) zero x e = record { below = omega arith; there = e }
+take_get (y ∷ xs) (suc n) (suc k) x e = let r : IsFront xs n k x = take_get xs n k x e in let l : k < n = r.below in record { below = omega arith; there = r.there }
+
+pub get_take : {X : Type 0} (xs : List X) (n k : ℕ) (x : X) → k < n → slice_get xs k ≡ Some x → slice_get (take n xs) k ≡ Some x
+get_take xs zero k x l e = absurd (omega arith)
+get_take [] (suc n) k x l e = cc
+get_take (y ∷ xs) (suc n) zero x l e = e
+get_take (y ∷ xs) (suc n) (suc k) x l e = get_take xs n k x (omega arith) e
+
+pub drop_get : {X : Type 0} (xs : List X) (n k : ℕ) (x : X) → slice_get (drop n xs) k ≡ Some x → slice_get xs (n + k) ≡ Some x
+drop_get xs zero k x e = let d : k ≡ 0 + k = omega arith in ap (slice_get xs) (sym d) ∙ e
+drop_get [] (suc n) k x e = cc
+drop_get (y ∷ xs) (suc n) k x e = let d : suc n + k ≡ suc (n + k) = omega arith in ap (slice_get (y ∷ xs)) d ∙ drop_get xs n k x e
+
+pub get_drop : {X : Type 0} (xs : List X) (n k : ℕ) (x : X) → slice_get xs (n + k) ≡ Some x → slice_get (drop n xs) k ≡ Some x
+get_drop xs zero k x e = let d : k ≡ 0 + k = omega arith in ap (slice_get xs) d ∙ e
+get_drop [] (suc n) k x e = cc
+get_drop (y ∷ xs) (suc n) k x e = let d : suc n + k ≡ suc (n + k) = omega arith in get_drop xs n k x (ap (slice_get (y ∷ xs)) (sym d) ∙ e)
+
+pub or_shift : (a b c : Bool) → ((a || b) || c) ≡ (a || (b || c))
+or_shift true b c = refl
+or_shift false b c = refl
+
+pub and_swap : (a b : Bool) → (a && b) ≡ (b && a)
+and_swap true true = refl
+and_swap true false = refl
+and_swap false true = refl
+and_swap false false = refl
+
+-- one more element of a list that is gone through
+pub any_step : {X : Type 0} (p : X → Bool) (xs : List X) (n : ℕ) (x : X) (a b c : Bool) → n < length xs → x ≡ get_or xs n x → b ≡ (a || list_any p (take n xs)) → c ≡ (b || p x)
+    → c ≡ (a || list_any p (take (n + 1) xs))
+any_step p xs n x a b c l e h k =
+    k ∙ (ap (λ z. z || p x) h ∙ (or_shift a (list_any p (take n xs)) (p x) ∙ ap (λ z. a || z)
+    (ap (λ z. list_any p (take n xs) || p z) e ∙ sym (list_any_more p xs n x l))))
+
+pub none_in : {X : Type 0} (p : X → Bool) (xs : List X) (k : ℕ) (x : X) → list_any p xs ≡ false → slice_get xs k ≡ Some x → p x ≡ false
+none_in p xs k x h e = elim (decide (p x)) [ inl a ↦ absurd (not_both (list_any p xs) (any_of p xs k x e a) h) | inr b ↦ b ]

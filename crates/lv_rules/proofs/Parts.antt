@@ -27,7 +27,7 @@ use Rattle.lv_rules.proofs.Touches.{any_touched}
 both : {b : Bool} → b ≡ true → b ≡ false → ⊥
 both h k = cc
 
-at_itself : (S : Signals) (v : View) (x : Extent) → IsExtent S v x → (ats : List At) → Contains (v.at ∷ ats) (at_view v x.place)
+pub at_itself : (S : Signals) (v : View) (x : Extent) → IsExtent S v x → (ats : List At) → Contains (v.at ∷ ats) (at_view v x.place)
 at_itself S v x h ats = head_has v.at (at_view v x.place) ats (ap (at_view v) (sym h.place))
 
 -- ---- WrongKind
@@ -41,7 +41,7 @@ wrong-targets : (S : Signals) (v : View) (x : Extent) → IsExtent S v x → lis
 wrong-targets S v x h = each_any (IsAim S) (is_wrong_aim v.way) (λ a. is_misaimed (way_of x.way) (sort_of a.sort)) v.targets (all_aims x) h.aims
     (λ a b k. sym (misaimed-is v.way a) ∙ (ap (λ w. is_misaimed w a.sort) (sym h.way) ∙ ap (is_misaimed (way_of x.way)) (sym k.sort)))
 
-and_shift : (a b c : Bool) → (a && b && c) ≡ (a && (b && c))
+pub and_shift : (a b c : Bool) → (a && b && c) ≡ (a && (b && c))
 and_shift true b c = refl
 and_shift false b c = refl
 

@@ -1,7 +1,7 @@
 // Ways and sorts, as tests.
 ghost use Rattle.std.specs.Prelude.{◌≡◌};
 ghost use Rattle.lv_source.specs.Names.{is_clock_sort};
-ghost use Rattle.lv_source.specs.Views.{is_combinational};
+ghost use Rattle.lv_source.specs.Views.{is_combinational, is_continuous, is_edge};
 ghost use Rattle.lv_flat.specs.Signals.{declared_all, signal_at, sort_of};
 ghost use Rattle.lv_extents.specs.Extents.{way_of};
 ghost use Rattle.lv_rules.specs.Rules.{is_other_edge, is_misaimed, is_misdriven, sort_or};
@@ -16,6 +16,26 @@ pub(crate) fn is_combinational(way: Way) -> bool
         Way::Continuous => false,
         Way::Combinational => true,
         Way::Edge(_, _) => false,
+    }
+}
+
+pub(crate) fn is_continuous(way: Way) -> bool
+    ensures { result ≡ is_continuous (way_of way) }
+{
+    match way {
+        Way::Continuous => true,
+        Way::Combinational => false,
+        Way::Edge(_, _) => false,
+    }
+}
+
+pub(crate) fn is_edge(way: Way) -> bool
+    ensures { result ≡ is_edge (way_of way) }
+{
+    match way {
+        Way::Continuous => false,
+        Way::Combinational => false,
+        Way::Edge(_, _) => true,
     }
 }
 

@@ -16,7 +16,6 @@ pub enum Sorting {
 }
 
 /// All vertices of a graph, given by the vertices to which each has an edge, in order; or a cycle, exactly where there is one.
-/// Each edge is followed at most twice.
 pub fn order(alloc: Global, edges: &[Vec<usize>]) -> Result<Sorting, NoMemory>
     requires { IsGraph (graph edges.now) }
     ensures { IfOk result (λ r. IsSorting (graph edges.now) r) }

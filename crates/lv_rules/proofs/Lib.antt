@@ -6,3 +6,5 @@ pub mod Found
 pub mod Parts
 pub mod Sharing
 pub mod Twice
+pub mod Sharers
+pub mod Gaps

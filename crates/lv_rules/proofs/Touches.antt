@@ -28,7 +28,7 @@ use Rattle.lv_rules.proofs.Signals.{has_element, one_signal}
 
 -- ---- masks
 
-some_bit : (k n : ℕ) → n ≤ k → 0 < n → (i : ℕ) × (is_set n i ≡ true)
+pub some_bit : (k n : ℕ) → n ≤ k → 0 < n → (i : ℕ) × (is_set n i ≡ true)
 some_bit zero n h p = absurd (omega arith)
 some_bit (suc k) n h p = elim (cases_eq (n % 2) 1) [
   | inl e ↦ (0, ap (λ x. x == 1) (bit_at_lowest n ∙ e))
@@ -108,7 +108,7 @@ bit_signal S q i s distinct a h k =
     let c : (is_signal_sort (signal_at S q.0).sort ≡ true) × HasCell (signal_at S q.0) (bit_of S q i).name × (i < width_of (signal_at S q.0)) = bit_cell S q i h in
     one_signal S q.0 s (bit_of S q i).name distinct c.0 a c.1 ((whole_place (signal_at S s) (bit_of S q i) k).0)
 
-under_signal : (s : ℕ) (e : Option ℕ) (q : Cell) → is_under s e q ≡ true → q.0 ≡ s
+pub under_signal : (s : ℕ) (e : Option ℕ) (q : Cell) → is_under s e q ≡ true → q.0 ≡ s
 under_signal s None q h = eqb-true q.0 s h
 under_signal s (Some k) q h = eqb-true q.0 s (and-left (q.0 == s) _ h)
 
@@ -146,7 +146,7 @@ touches_by S bits xs s distinct h a = same_tests (touches bits (signal_at S s)) 
     (λ k. let r : IsSome (λ (x : Span). x.signal == s) xs = some_of (λ x. x.signal == s) xs k in
     subst (λ z. touches bits (signal_at S z) ≡ true) (eqb-true r.item.signal s r.holds) (span_touches S bits xs r.at r.item h r.there))
 
-signal_get : (S : Signals) (s : ℕ) (x : Declared) → slice_get S s ≡ Some x → signal_at S s ≡ x
+pub signal_get : (S : Signals) (s : ℕ) (x : Declared) → slice_get S s ≡ Some x → signal_at S s ≡ x
 signal_get S s x e = get_or_from_slice_get S s x _ e
 
 touched_there : (S : Signals) (bits : List Bit) (xs : List Span) (P : Declared → Bool) → AreDistinct (all_cells S) → AreSpansOf S bits xs

@@ -74,7 +74,7 @@ mixed-signal S vs xs clocked unclocked false s distinct h c u a =
     (ap (λ w. is_edge w && touches v.drives (signal_at S s)) (sym k.way) ∙ ap (λ b. is_edge (way_of x.way) && b) (touches_by S v.drives x.drives s distinct k.drives a))) ∙
     sym (c.marked s (signal_in S s a))
 
-and_turn : (a b c : Bool) → (a && b && c) ≡ (b && (a && c))
+pub and_turn : (a b c : Bool) → (a && b && c) ≡ (b && (a && c))
 and_turn true true c = refl
 and_turn true false c = refl
 and_turn false true c = refl
@@ -167,7 +167,7 @@ two-is S vs xs clocked unclocked' k v x distinct h c u m =
 all-spans : (S : Signals) (vs : List View) (xs : List Extent) → AreExtents S vs xs → AllSpans S xs
 all-spans S vs xs h k x e = (each_get (IsExtent S) vs xs k x h e).holds.drives.each
 
-told_has : (b : Bool) (ats : List At) (at : At) → b ≡ true → Contains ats at → Contains (told_if b ats) at
+pub told_has : (b : Bool) (ats : List At) (at : At) → b ≡ true → Contains ats at → Contains (told_if b ats) at
 told_has true ats at e h = h
 told_has false ats at e h = cc
 

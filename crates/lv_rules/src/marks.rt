@@ -87,7 +87,7 @@ pub(crate) fn driven_by(
     Ok(marks)
 }
 
-fn is_variable(sort: Option<Sort>) -> bool
+pub(crate) fn is_variable(sort: Option<Sort>) -> bool
     ensures { result ≡ is_variable_sort (sort_or sort) }
 {
     match sort {

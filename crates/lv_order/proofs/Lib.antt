@@ -1,0 +1,8 @@
+mod Rows
+mod Lists
+mod Chains
+mod Ranks
+mod Rings
+mod Works
+mod Steps
+mod Turns

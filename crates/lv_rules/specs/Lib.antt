@@ -1,0 +1,4 @@
+pub mod Drives
+pub mod Reads
+pub mod Rules
+pub mod Wires

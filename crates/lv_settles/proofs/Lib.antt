@@ -1,0 +1,6 @@
+mod Carried
+mod FlatTrees
+mod Lists
+mod Ordered
+mod Rightness
+mod Settling

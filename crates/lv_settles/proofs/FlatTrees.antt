@@ -1,8 +1,8 @@
 -- A flat expression reads as a tree of the source does whose names are numbers.
-use Rattle.std.proofs.Common.{◌≡◌, ℕ, suc, ◌%◌, ◌^◌, ◌<◌, Bool, true, false, not, ◌==◌, List, [], ◌∷◌, map, refl, sym, ap, ◌∙◌, arith, pow-suc, subst, ◌&&◌, ◌*◌, ◌++◌, Option, Some, None}
+use Rattle.std.proofs.Common.{◌≡◌, ℕ, zero, suc, ◌%◌, ◌^◌, ◌<◌, Bool, true, false, not, ◌==◌, List, [], ◌∷◌, map, refl, sym, ap, ◌∙◌, arith, pow-suc, subst, ◌&&◌, ◌*◌, ◌++◌, Option, Some, None}
 use Rattle.std.specs.Prelude.{flat_map}
+use Rattle.std.proofs.Math.Nat.{mod-eq_of_lt}
 use Rattle.std.specs.List.{AllZip, list_all}
-use Rattle.std.proofs.lemmas.Nat.Bits.{lt_pow}
 use Rattle.lv_bits.specs.Values.{keeps_width, extended}
 use Rattle.lv_ast.specs.Names.{Name}
 use Rattle.lv_ast.specs.declared.expr.Literal.{Literal}
@@ -37,17 +37,17 @@ use Rattle.lv_flat.proofs.ReadAlike.{IsNumber, same-number}
 
 -- ---- names that are numbers
 
-flag : Bool → ℕ
+abbrev pub flag : Bool → ℕ
 flag true = 1
 flag false = 0
 
 -- a constant by its bounds, its sign and its value
-constant_by : ℕ → ℕ → ℕ → ℕ → Declared
+abbrev pub constant_by : ℕ → ℕ → ℕ → ℕ → Declared
 constant_by left right signed value =
     record { path = []; bounds = record { left = left; right = right }; ranged = true; signed = signed == 1; array = None; sort = Constant value }
 
 -- a name of one number is a signal, one of four a constant
-abbrev by_numbers : Signals → Name → Option Declared
+abbrev pub by_numbers : Signals → Name → Option Declared
 by_numbers S [] = None
 by_numbers S (k ∷ []) = Some (signal_at S k)
 by_numbers S (k ∷ l ∷ []) = None
@@ -58,7 +58,6 @@ abbrev pub numbered : Signals → Names
 numbered S p = by_numbers S p.name
 
 flag_is : (b : Bool) → (flag b == 1) ≡ b
-unfolding flag
 flag_is true = refl
 flag_is false = refl
 
@@ -69,7 +68,7 @@ constant_path : Const → Path
 constant_path c = path_of (c.left ∷ c.right ∷ flag c.signed ∷ c.word.value ∷ []) 0
 
 constant_is : (S : Signals) (c : Const) → known (numbered S (constant_path c)) ≡ constant_of [] c
-unfolding constant_path constant_by
+unfolding constant_path
 constant_is S c = ap (λ (b : Bool). let d : Declared = record { path = []; bounds = record { left = c.left; right = c.right }; ranged = true; signed = b; array = None; sort = Constant c.word.value } in d) (flag_is c.signed)
 
 -- ---- numbers that have been computed
@@ -77,8 +76,12 @@ constant_is S c = ap (λ (b : Bool). let d : Declared = record { path = []; boun
 literal_for : ℕ → Literal
 literal_for n = record { size = Some (suc n); plain = false; signed = false; value = n; wild = 0; place = 0 }
 
+lt_power : (n : ℕ) → n < 2 ^ n
+lt_power zero = omega arith
+lt_power (suc n) = omega (arith, lt_power n, pow-suc 2 n)
+
 below : (n : ℕ) → n % 2 ^ suc n ≡ n
-below n = omega (arith, lt_pow n, pow-suc 2 n)
+below n = let h : n < 2 ^ suc n = omega (arith, lt_power n, pow-suc 2 n) in mod-eq_of_lt h
 
 read_roll : (names : Names) (x : Expr-F Expr Select) → read_expr names (roll-Expr x) ≡ read_step names (map-Expr Expr Select Reading Choice (read_expr names) (read_select names) x)
 unfolding read_expr read_select

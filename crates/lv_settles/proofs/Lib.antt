@@ -1,4 +1,7 @@
 mod Carried
+mod Cells
+mod FlatParts
+mod FlatStatements
 mod FlatTrees
 mod Lists
 mod Ordered

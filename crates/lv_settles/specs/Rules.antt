@@ -4,8 +4,12 @@ use Rattle.std.specs.List.{list_any}
 use Rattle.lv_ast.specs.Names.{Name}
 use Rattle.lv_source.specs.Names.{Declared, Valuation, is_input_sort}
 use Rattle.lv_source.specs.Places.{cells}
-use Rattle.lv_source.specs.Parts.{width_from}
+use Rattle.lv_source.specs.Parts.{width_from, is_signal}
 use Rattle.lv_source.specs.Views.{View, unfixed_views, wrong_views, nonblocking_views, blocking_views, two_views, undriven_views, latch_views, first_views, view_registers}
+
+-- the signals among what is declared
+abbrev pub signals_in : List Declared → List Declared
+signals_in ds = filter is_signal ds
 
 -- nothing is told of any part
 pub record AreRight (ds : List Declared) (vs : List View) : Type 0 where

@@ -5,9 +5,25 @@
 ghost use Rattle.std.specs.Prelude.{◌≡◌, ℕ, List};
 ghost use Rattle.lv_source.specs.Names.{Declared, Valuation};
 ghost use Rattle.lv_source.specs.Views.{View, IsViewSettled};
+ghost use Rattle.lv_flat.specs.declared.part.FlatPart.{FlatPart};
+ghost use Rattle.lv_flat.specs.Cells.{all_cells, AreDistinct};
+ghost use Rattle.lv_flat.specs.Signals.{Signals};
+ghost use Rattle.lv_flat.specs.FlatViews.{flat_views};
 ghost use Rattle.lv_settles.specs.Lawful.{AreLawful};
 ghost use Rattle.lv_settles.specs.Orders.{IsOrder, carried};
-ghost use Rattle.lv_settles.specs.Rules.{AreRight, AreApart, IsStart, SameStart};
+ghost use Rattle.lv_settles.specs.Rules.{AreRight, AreApart, IsStart, SameStart, signals_in};
+
+/// The parts of a flat design that break no rule leave the bits that they don't drive, and set those that they drive by the bits
+/// that they read, if they have no clock; all drive bits of signals.
+pub fn flat_parts_are_lawful()
+    ensures { (S : Signals) (ps : List FlatPart) → AreDistinct (all_cells S) → AreRight (signals_in S) (flat_views S ps) →
+        AreLawful (signals_in S) (flat_views S ps) }
+{}
+
+/// Signals whose cells have distinct names share no cell.
+pub fn signals_are_apart()
+    ensures { (S : Signals) → AreDistinct (all_cells S) → AreApart (signals_in S) }
+{}
 
 /// What the parts without a clock leave, one after another in an order, is settled.
 pub fn order_settles()

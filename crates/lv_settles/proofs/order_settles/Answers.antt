@@ -1,4 +1,3 @@
-use Rattle.lv_settles.proofs.FlatTrees.{has_tree}
 use Rattle.lv_settles.proofs.Settling.{settles}
 use Rattle.lv_settles.proofs.order_settles.Goals as goal
 

@@ -1,9 +1,9 @@
 mod Carried
-mod Cells
-mod FlatParts
+pub mod Cells
+pub mod FlatParts
 mod FlatStatements
 mod FlatTrees
-mod Lists
+pub mod Lists
 mod Ordered
 mod Rightness
-mod Settling
+pub mod Settling

@@ -1,0 +1,5 @@
+mod Standing
+mod Starting
+mod Valuations
+mod Slotting
+mod Beginning

@@ -16,7 +16,7 @@ ghost use Rattle.lv_lower_exprs.specs.Tables.{IsTable, AreFirsts, Means};
 ghost use Rattle.lv_lower_exprs.specs.Named.{bounds_by, chosen_by, name_width, is_good_select, are_good_selects, is_constant_select, are_constant, bits_read, HasElement, name_word, Selects, Stands};
 
 use crate::divide::{quotient, remainder};
-use crate::own::{const_width, count, is_clock, literal_width, own, signal_of, signal_width};
+use crate::sizes::{const_width, count, is_clock, literal_width, own, signal_of, signal_width};
 use crate::reach::{reach_one, reach_two};
 use lv_ast::Literal;
 use lv_bits::{NoMemory, Op, Word};
@@ -422,7 +422,8 @@ fn joined(
     Ok(acc)
 }
 
-pub(crate) fn number_at(list: &[u64], k: u64) -> u64
+/// The number at a place of a list.
+pub fn number_at(list: &[u64], k: u64) -> u64
     requires { k < length list.now }
     ensures { result ≡ slice_index list.now k }
 {

@@ -3,7 +3,8 @@
 
 mod divide;
 mod expr;
-mod own;
 mod reach;
+mod sizes;
 
-pub use expr::value;
+pub use expr::{number_at, value};
+pub use sizes::{count, is_clock, own, signal_of, signal_width};

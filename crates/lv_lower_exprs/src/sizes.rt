@@ -22,7 +22,7 @@ pub(crate) fn span(left: u32, right: u32) -> u32
 }
 
 /// The signal with this number.
-pub(crate) fn signal_of(signals: &[Signal], k: u64) -> &Signal
+pub fn signal_of(signals: &[Signal], k: u64) -> &Signal
     requires { k < length signals.now }
     ensures { signal_at (declared_all signals.now) k ≡ declared result.now }
 {
@@ -41,7 +41,7 @@ pub(crate) fn literal_width(l: &Literal) -> u32
 }
 
 /// How many bits a select names.
-pub(crate) fn count(signals: &[Signal], s: &FlatSelect) -> u32
+pub fn count(signals: &[Signal], s: &FlatSelect) -> u32
     requires { count_of (meant (judge_select (declared_all signals.now) s.now).choice) ≤ 128 }
     ensures { result ≡ count_of (meant (judge_select (declared_all signals.now) s.now).choice) }
 {
@@ -99,7 +99,7 @@ pub(crate) fn const_width(c: Const) -> u32
 }
 
 /// The width of a signal.
-pub(crate) fn signal_width(s: &Signal) -> u32
+pub fn signal_width(s: &Signal) -> u32
     ensures is { result ≡ size (record { left = s.now.left; right = s.now.right }) }
     ensures some { 1 ≤ result }
     ensures most { result ≤ 128 }
@@ -108,7 +108,7 @@ pub(crate) fn signal_width(s: &Signal) -> u32
 }
 
 /// Whether the signal is a clock.
-pub(crate) fn is_clock(s: &Signal) -> bool
+pub fn is_clock(s: &Signal) -> bool
     ensures { result ≡ is_clock_sort (declared s.now).sort }
 {
     matches!(s.sort, Sort::Clock)
@@ -116,7 +116,7 @@ pub(crate) fn is_clock(s: &Signal) -> bool
 
 /// The own width and the own sign of an expression.
 #[cycle(own)]
-pub(crate) fn own(signals: &[Signal], e: &FlatExpr) -> (u32, bool)
+pub fn own(signals: &[Signal], e: &FlatExpr) -> (u32, bool)
     requires { is_good (declared_all signals.now) e.now ≡ true }
     ensures { result ≡ ((meaning (declared_all signals.now) e.now).width, (meaning (declared_all signals.now) e.now).signed) }
 {

@@ -16,7 +16,7 @@ use Rattle.lv_lower_exprs.specs.Named.{name_width}
 use Rattle.lv_lower_exprs.proofs.Owns.{two-parts, own-signal-wide, own-signal-signed}
 use Rattle.lv_lower_exprs.proofs.Wholes.{declared-in}
 use Rattle.lv_lower_exprs.proofs.Joining.{widths-more, widths-most, good-at, part_below}
-use Rattle.lv_lower_exprs.proofs.own.+own.Goals as goal
+use Rattle.lv_lower_exprs.proofs.sizes.+own.Goals as goal
 
 pub own-own-a-requires : goal.own-own-a-requires
 own-own-a-requires t c =

@@ -1,7 +1,7 @@
 use Rattle.std.proofs.Common.{sym, arith, ◌∙◌}
 use Rattle.lv_flat.specs.Signals.{declared_all}
 use Rattle.lv_lower_exprs.proofs.Naming.{count-Bit, count-Part, count-Up, count-Down}
-use Rattle.lv_lower_exprs.proofs.own.count.Goals as goal
+use Rattle.lv_lower_exprs.proofs.sizes.count.Goals as goal
 
 pub span-requires : goal.span-requires
 span-requires c = omega (arith, count-Part (declared_all c.args.signals.now) c.args.s.now c.in-Part.left c.in-Part.right c.in-Part.is, c.requires)

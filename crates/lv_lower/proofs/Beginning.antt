@@ -146,7 +146,7 @@ module _ (S : Signals) (vs : List View) (net : Net) (grown : Grows (net_from no_
   pub table-count : length table ≡ length cs
   table-count = range-count 0 (length ss) ∙ sym (cells-count vs S)
 
-  stands-at : (i : ℕ) → i < length ss → Stands (slot_at ss i).kind (net_from no_nodes ss) i (slot_at ss i).name (slot_at ss i).width
+  pub stands-at : (i : ℕ) → i < length ss → Stands (slot_at ss i).kind (net_from no_nodes ss) i (slot_at ss i).name (slot_at ss i).width
   stands-at i b = subst (λ at. Stands (slot_at ss i).kind (net_from no_nodes ss) at (slot_at ss i).name (slot_at ss i).width) (let e : 0 + i ≡ i = omega arith in e) (stands no_nodes ss i b)
 
   width-by : (kind : Kind) (old : Net) (i : ℕ) (name : List ℕ) (width : ℕ) → Stands kind old i name width → width_at old.nodes i ≡ width
@@ -154,7 +154,7 @@ module _ (S : Signals) (vs : List View) (net : Net) (grown : Grows (net_from no_
   width-by k.Register old i name width s = ap (λ t. t.width) s.1
   width-by k.Zero old i name width s = ap (λ t. t.width) s
 
-  inside : (i : ℕ) → i < length ss → i < length (net_from no_nodes ss).nodes
+  pub inside : (i : ℕ) → i < length ss → i < length (net_from no_nodes ss).nodes
   inside i b = (let e : length (net_from no_nodes ss).nodes ≡ length ss = count in omega arith)
 
   width-of : (i : ℕ) → i < length ss → width_at net.nodes i ≡ (slot_at ss i).width
@@ -182,18 +182,18 @@ module _ (S : Signals) (vs : List View) (net : Net) (grown : Grows (net_from no_
     shows-start = shows-own w cs table distinct table-count
 
     -- the value of the cell of this number
-    value-is : (i : ℕ) → i < length ss → v0 (slot_at ss i).name ≡ value_at w i
+    pub value-is : (i : ℕ) → i < length ss → v0 (slot_at ss i).name ≡ value_at w i
     value-is i b =
         sym (ap v0 (ap (λ (c : Cell). c.name) (cell-slot vs S i))) ∙
         (sym (shows-start.is i (let e : length cs ≡ length ss = cells-count vs S in omega arith)) ∙ ap (value_at w) (table-at i b))
 
     -- where a name that is a cell's stands
-    found : (name : Name) → named_by name cs ≡ true → (i : ℕ) × (i < length ss) × ((slot_at ss i).name ≡ name)
+    pub found : (name : Name) → named_by name cs ≡ true → (i : ℕ) × (i < length ss) × ((slot_at ss i).name ≡ name)
     found name h =
         let r : (i : ℕ) × (i < length cs) × ((cell_at cs i).name ≡ name) = find-cell cs name h in
         (r.0, slots-below r.0 r.1, ap (λ (c : Cell). c.name) (sym (cell-slot vs S r.0)) ∙ r.2)
 
-    in-net : (i : ℕ) → i < length ss → i < length net.nodes
+    pub in-net : (i : ℕ) → i < length ss → i < length net.nodes
     in-net i b = (let m : length (net_from no_nodes ss).nodes ≤ length net.nodes = grown.more in let e : i < length (net_from no_nodes ss).nodes = inside i b in omega arith)
 
     width-from : (i : ℕ) → i < length ss → width_from (signals_in S) (slot_at ss i).name ≡ (slot_at ss i).width

@@ -2,4 +2,6 @@ mod Standing
 mod Starting
 mod Valuations
 mod Slotting
+mod Asking
 mod Beginning
+mod Concluding

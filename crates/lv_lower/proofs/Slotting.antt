@@ -1,7 +1,11 @@
 -- The cells of the first signals and of one more.
-use Rattle.std.proofs.Common.{◌≡◌, ℕ, zero, suc, ◌+◌, ◌<◌, Bool, List, [], ◌∷◌, ◌++◌, length, map, take, refl, sym, ap, ◌∙◌, arith, get_or, true, append_assoc}
+use Rattle.std.proofs.Common.{◌≡◌, inl, inr, ℕ, zero, suc, ◌+◌, ◌<◌, Bool, List, [], ◌∷◌, ◌++◌, length, map, take, refl, sym, ap, ◌∙◌, arith, get_or, true, append_assoc}
 use Rattle.std.specs.Prelude.{flat_map, slice_index_or, if◌then◌else◌, ◌-◌, ◌≤◌, Option, Some, None}
 use Rattle.std.specs.List.{range_with_len}
+use Rattle.std.specs.Prelude.{slice_index}
+use Rattle.std.proofs.lemmas.Bool.{cases_lt}
+use Rattle.std.proofs.lemmas.List.{length-append, get_or_append_left, get_or_at}
+use Rattle.lv_source.proofs.Bridges.{two}
 use Rattle.std.proofs.lemmas.List.{take_more, length-map, append-nil}
 use Rattle.lv_ast.specs.Names.{Name}
 use Rattle.lv_source.specs.Names.{Declared, Bounds, low, size, width_of, is_input_sort, is_signal_sort}
@@ -10,11 +14,11 @@ use Rattle.lv_source.proofs.Bridges.{map-map}
 use Rattle.lv_source.specs.Views.{View, is_register_view}
 use Rattle.lv_source.proofs.Summaries.{flat-join}
 use Rattle.lv_flat.specs.declared.signal.Signal.{Signal}
-use Rattle.lv_flat.specs.Cells.{Cell, cell_of, cells_of}
-use Rattle.lv_flat.specs.Signals.{declared, declared_all}
+use Rattle.lv_flat.specs.Cells.{Cell, cell_of, cells_of, all_cells}
+use Rattle.lv_flat.specs.Signals.{Signals, declared, declared_all}
 use Rattle.lv_lower.specs.declared.slot.Kind.{Kind}
 use Rattle.lv_lower.specs.declared.slot.Slot.{Slot}
-use Rattle.lv_lower.specs.Slots.{kind_by, slot_by, element_slot, slots_of, all_slots}
+use Rattle.lv_lower.specs.Slots.{kind_by, slot_by, element_slot, slots_of, all_slots, AreCounts}
 use Rattle.lv_lower.proofs.Starting.{range-more}
 use Rattle.lv_flat.specs.Signals.{bounds_of}
 use Rattle.lv_flat.proofs.Widths.{declared-width}
@@ -87,3 +91,42 @@ cells-one s kind a h =
     ap (λ w. (let z : Slot = record { name = s.path; width = w; kind = kind } in z) ∷ []) (sym (declared-width s)) ∙
     (ap (λ (o : Option (ℕ × ℕ)). map (slot_by kind) (map (cell_of (width_of (declared s))) (cells_by (bounds_of o) s.path))) (sym a) ∙
     ap (map (slot_by kind)) (cells-signal (declared s) h))
+
+-- ---- the numbers of first cells
+
+slots-length : (vs : List View) (S : Signals) → length (all_slots vs S) ≡ length (all_cells S)
+slots-length vs [] = refl
+slots-length vs (d ∷ S) =
+    length-append (slots_of vs d) (all_slots vs S) ∙
+    (two (λ (x y : ℕ). x + y) _ _ _ _ (length-map (cells_of d) (slot_by (kind_by (is_input_sort d.sort) (is_register_view vs d)))) (slots-length vs S) ∙ sym (length-append (cells_of d) (all_cells S)))
+
+take-length : {A : Type 0} (xs : List A) (i : ℕ) → i ≤ length xs → length (take i xs) ≡ i
+take-length xs zero h = refl
+take-length [] (suc i) h = absurd (omega arith)
+take-length (x ∷ xs) (suc i) h = ap suc (take-length xs i (omega arith))
+
+take-shorter : (S : Signals) (k i : ℕ) → k ≤ i → take k S ≡ take k (take i S)
+take-shorter S zero i h = refl
+take-shorter [] (suc k) zero h = refl
+take-shorter [] (suc k) (suc i) h = refl
+take-shorter (x ∷ xs) (suc k) zero h = absurd (omega arith)
+take-shorter (x ∷ xs) (suc k) (suc i) h = ap (λ ys. x ∷ ys) (take-shorter xs k i (omega arith))
+
+pub counts-more : (vs : List View) (ss : List Signal) (i : ℕ) (old new : List ℕ) (all : List Slot) → i < length ss → all ≡ all_slots vs (take i (declared_all ss)) →
+    AreCounts (take i (declared_all ss)) old → new ≡ old ++ length all ∷ [] → AreCounts (take (i + 1) (declared_all ss)) new
+counts-more vs ss i old new all h a c n =
+    let S : Signals = declared_all ss in
+    let l : length S ≡ length ss = length-map ss declared in
+    let e : length (take i S) ≡ i = take-length S i (omega arith) in
+    let f : length (take (i + 1) S) ≡ i + 1 = take-length S (i + 1) (omega arith) in
+    let o : length old ≡ i = c.count ∙ e in
+    record {
+      count = ap (λ xs. length xs) n ∙ (length-append old (length all ∷ []) ∙ (let s : length old + 1 ≡ length (take (i + 1) S) = omega arith in s));
+      is = λ k b. ap (λ xs. slice_index xs k) n ∙ elim (cases_lt k i) [
+        | inl lt ↦ get_or_append_left old (length all ∷ []) 0 k (omega arith) ∙
+            (c.is k (omega arith) ∙ ap (λ xs. length (all_cells xs)) (sym (take-shorter S k i (omega arith)) ∙ take-shorter S k (i + 1) (omega arith)))
+        | inr le ↦ (let s : k ≡ i = omega arith in
+            get_or_at old (length all) [] 0 k (omega arith) ∙ (ap (λ xs. length xs) a ∙ (slots-length vs (take i S) ∙
+            ap (λ xs. length (all_cells xs)) (ap (λ z. take z S) (sym s) ∙ take-shorter S k (i + 1) (omega arith)))))
+      ];
+    }

@@ -13,6 +13,7 @@ use Rattle.lv_lower.specs.declared.slot.Kind.{Kind}
 use Rattle.lv_lower.specs.declared.slot.Kind.TheVariants as k
 use Rattle.lv_lower.specs.declared.slot.Slot.{Slot}
 use Rattle.lv_lower.specs.Started.{add_slot, net_from, slot_at}
+use Rattle.lv_lower.proofs.Starting.{inputs_in, registers_in}
 
 abbrev a_node : Node → ℕ → Typed
 a_node node width = record { node = node; width = width }
@@ -102,3 +103,73 @@ stands net (s ∷ ss) (suc j) h =
     let e : length (add_slot net s).nodes ≡ length net.nodes + 1 = added net s.name s.width s.kind in
     let z : length (add_slot net s).nodes + j ≡ length net.nodes + suc j = omega arith in
     subst (λ at. Stands (slot_at ss j).kind (net_from (add_slot net s) ss) at (slot_at ss j).name (slot_at ss j).width) z (stands (add_slot net s) ss j (omega arith))
+
+-- ---- the cell of an input or a register
+
+kept-node : (net : Net) (ss : List Slot) (at : ℕ) → at < length net.nodes → node_at (net_from net ss).nodes at ≡ node_at net.nodes at
+kept-node net [] at b = refl
+kept-node net (x ∷ ss) at b =
+    kept-node (add_slot net x) ss at (let e : length (add_slot net x).nodes ≡ length net.nodes + 1 = added net x.name x.width x.kind in omega arith) ∙
+    (longer-add net x.name x.width x.kind).nodes at b
+
+new-node : (net : Net) (ss : List Slot) (name : List ℕ) (width : ℕ) (kind : Kind) (t : Typed) → node_at (add_slot net (record { name = name; width = width; kind = kind })).nodes (length net.nodes) ≡ t →
+    node_at (net_from net ((let z : Slot = record { name = name; width = width; kind = kind } in z) ∷ ss)).nodes (length net.nodes + 0) ≡ t
+new-node net ss name width kind t h =
+    (let z : length net.nodes + 0 ≡ length net.nodes = omega arith in ap (λ at. node_at (net_from net ((let z : Slot = record { name = name; width = width; kind = kind } in z) ∷ ss)).nodes at) z) ∙
+    (kept-node (add_slot net (record { name = name; width = width; kind = kind })) ss (length net.nodes)
+    (let e : length (add_slot net (record { name = name; width = width; kind = kind })).nodes ≡ length net.nodes + 1 = added net name width kind in omega arith) ∙ h)
+
+abbrev InputCell : Net → List Slot → ℕ → Type 0
+InputCell net ss i = (at : ℕ) × (at < length ss) × ((slot_at ss at).kind ≡ k.Input) × ((node_at (net_from net ss).nodes (length net.nodes + at)).node ≡ n.Input (length net.inputs + i)) ×
+    (input_at (inputs_in ss) i ≡ ((slot_at ss at).name, (slot_at ss at).width))
+
+abbrev RegisterCell : Net → List Slot → ℕ → Type 0
+RegisterCell net ss i = (at : ℕ) × (at < length ss) × ((slot_at ss at).kind ≡ k.Register) × ((node_at (net_from net ss).nodes (length net.nodes + at)).node ≡ n.Reg (length net.registers + i)) ×
+    (register_at (registers_in ss) i ≡ a_register (slot_at ss at).name (slot_at ss at).width)
+
+input-deeper : (net : Net) (s : Slot) (ss : List Slot) (i j : ℕ) → length (add_slot net s).inputs + i ≡ length net.inputs + j → input_at (inputs_in (s ∷ ss)) j ≡ input_at (inputs_in ss) i →
+    InputCell (add_slot net s) ss i → InputCell net (s ∷ ss) j
+input-deeper net s ss i j e f c =
+    let l : length (add_slot net s).nodes ≡ length net.nodes + 1 = added net s.name s.width s.kind in
+    let b : c.0 < length ss = c.1 in
+    let at : length net.nodes + suc c.0 ≡ length (add_slot net s).nodes + c.0 = omega arith in
+    (suc c.0, omega arith, c.2, ap (λ z. (node_at (net_from (add_slot net s) ss).nodes z).node) at ∙ (c.3 ∙ ap n.Input e), f ∙ c.4)
+
+register-deeper : (net : Net) (s : Slot) (ss : List Slot) (i j : ℕ) → length (add_slot net s).registers + i ≡ length net.registers + j → register_at (registers_in (s ∷ ss)) j ≡ register_at (registers_in ss) i →
+    RegisterCell (add_slot net s) ss i → RegisterCell net (s ∷ ss) j
+register-deeper net s ss i j e f c =
+    let l : length (add_slot net s).nodes ≡ length net.nodes + 1 = added net s.name s.width s.kind in
+    let b : c.0 < length ss = c.1 in
+    let at : length net.nodes + suc c.0 ≡ length (add_slot net s).nodes + c.0 = omega arith in
+    (suc c.0, omega arith, c.2, ap (λ z. (node_at (net_from (add_slot net s) ss).nodes z).node) at ∙ (c.3 ∙ ap n.Reg e), f ∙ c.4)
+
+input-by : (net : Net) (ss : List Slot) → ((new : Net) (i : ℕ) → i < length (inputs_in ss) → InputCell new ss i) → (name : List ℕ) (width : ℕ) (kind : Kind) →
+    (let s : Slot = record { name = name; width = width; kind = kind } in (i : ℕ) → i < length (inputs_in (s ∷ ss)) → InputCell net (s ∷ ss) i)
+input-by net ss f name width k.Input zero b =
+    (0, omega arith, refl,
+    ap (λ (t : Typed). t.node) (new-node net ss name width k.Input (a_node (n.Input (length net.inputs)) width) (get_or_at net.nodes _ [] _ (length net.nodes) refl)) ∙
+    (let z : length net.inputs ≡ length net.inputs + 0 = omega arith in ap n.Input z), refl)
+input-by net ss f name width k.Input (suc i) b =
+    input-deeper net _ ss i (suc i) (let e : length (net.inputs ++ (name, width) ∷ []) ≡ length net.inputs + 1 = length-append net.inputs ((name, width) ∷ []) in omega arith) refl (f _ i (omega arith))
+input-by net ss f name width k.Register i b = input-deeper net _ ss i i refl refl (f _ i b)
+input-by net ss f name width k.Zero i b = input-deeper net _ ss i i refl refl (f _ i b)
+
+pub input-cell : (ss : List Slot) (net : Net) (i : ℕ) → i < length (inputs_in ss) → InputCell net ss i
+input-cell [] net i b = absurd (omega arith)
+input-cell (s ∷ ss) net i b = input-by net ss (input-cell ss) s.name s.width s.kind i b
+
+register-by : (net : Net) (ss : List Slot) → ((new : Net) (i : ℕ) → i < length (registers_in ss) → RegisterCell new ss i) → (name : List ℕ) (width : ℕ) (kind : Kind) →
+    (let s : Slot = record { name = name; width = width; kind = kind } in (i : ℕ) → i < length (registers_in (s ∷ ss)) → RegisterCell net (s ∷ ss) i)
+register-by net ss f name width k.Register zero b =
+    (0, omega arith, refl,
+    ap (λ (t : Typed). t.node) (new-node net ss name width k.Register (a_node (n.Reg (length net.registers)) width) (get_or_at net.nodes _ [] _ (length net.nodes) refl)) ∙
+    (let z : length net.registers ≡ length net.registers + 0 = omega arith in ap n.Reg z), refl)
+register-by net ss f name width k.Register (suc i) b =
+    register-deeper net _ ss i (suc i) (let e : length (net.registers ++ a_register name width ∷ []) ≡ length net.registers + 1 = length-append net.registers (a_register name width ∷ []) in omega arith) refl
+    (f _ i (omega arith))
+register-by net ss f name width k.Input i b = register-deeper net _ ss i i refl refl (f _ i b)
+register-by net ss f name width k.Zero i b = register-deeper net _ ss i i refl refl (f _ i b)
+
+pub register-cell : (ss : List Slot) (net : Net) (i : ℕ) → i < length (registers_in ss) → RegisterCell net ss i
+register-cell [] net i b = absurd (omega arith)
+register-cell (s ∷ ss) net i b = register-by net ss (register-cell ss) s.name s.width s.kind i b

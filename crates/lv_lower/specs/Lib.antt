@@ -1,3 +1,4 @@
 pub mod Slots
 pub mod Started
 pub mod Lowered
+pub mod Asked

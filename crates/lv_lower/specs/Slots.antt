@@ -1,10 +1,10 @@
 -- The cells of a flat design, and what the nodes of each are before the parts are carried out.
-use Rattle.std.specs.Prelude.{ℕ, Bool, List, map, flat_map, decimal, if◌then◌else◌}
+use Rattle.std.specs.Prelude.{◌≡◌, ◌<◌, ℕ, Bool, List, length, take, slice_index, map, flat_map, decimal, if◌then◌else◌}
 use Rattle.lv_ast.specs.Names.{Name, at_index}
 use Rattle.lv_source.specs.Names.{Declared, is_input_sort}
 use Rattle.lv_source.specs.Views.{View, is_register_view}
 use Rattle.lv_flat.specs.declared.flat.Flat.{Flat}
-use Rattle.lv_flat.specs.Cells.{Cell, cells_of}
+use Rattle.lv_flat.specs.Cells.{Cell, cells_of, all_cells}
 use Rattle.lv_flat.specs.Signals.{Signals, declared_all}
 use Rattle.lv_flat.specs.FlatViews.{flat_views}
 use Rattle.lv_lower.specs.declared.slot.Kind.{Kind}
@@ -35,3 +35,8 @@ slots_of vs d = map (slot_by (kind_by (is_input_sort d.sort) (is_register_view v
 
 abbrev pub all_slots : List View → Signals → List Slot
 all_slots vs S = flat_map (slots_of vs) S
+
+-- the number of the first cell of each signal
+pub record AreCounts (S : Signals) (first : List ℕ) : Type 0 where
+  pub count : length first ≡ length S
+  pub is : (k : ℕ) → k < length S → slice_index first k ≡ length (all_cells (take k S))

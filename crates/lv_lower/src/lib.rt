@@ -1,8 +1,10 @@
 //! A flat design as a graph: its inputs and registers, a node for each cell, and the next node of each register.
 #![tactic(auto)]
 
-mod slot;
 mod begin;
+mod lowered;
+mod slot;
 
-pub use slot::{Kind, Slot, slots};
 pub use begin::start;
+pub use lowered::{Lowered, carried_table_settles};
+pub use slot::{Kind, Slot, slots};

@@ -4,7 +4,7 @@ ghost use Rattle.lv_ast.specs.Names.{at_index};
 ghost use Rattle.lv_source.specs.Names.{low, high, is_input_sort, is_signal_sort};
 ghost use Rattle.lv_flat.specs.Signals.{declared};
 ghost use Rattle.lv_flat.specs.Cells.{cells_of};
-ghost use Rattle.lv_lower.specs.Slots.{kind_by, slot_by, element_slot, names_of, views_of, flags_of, all_slots};
+ghost use Rattle.lv_lower.specs.Slots.{kind_by, slot_by, element_slot, names_of, views_of, flags_of, all_slots, AreCounts};
 
 use lv_bits::{NoMemory, Text};
 use lv_flat::{Flat, Signal, Sort};
@@ -114,19 +114,22 @@ fn cells(
     }
 }
 
-/// All cells in order. `registers` says of each signal whether it is a register.
+/// All cells in order, and the number of the first cell of each signal. `registers` says of each signal whether it is a register.
 pub fn slots(
     alloc: Global,
     flat: &Flat,
     registers: &[bool],
-) -> Result<Vec<Slot>, NoMemory>
+) -> Result<(Vec<Slot>, Vec<u64>), NoMemory>
     requires { registers.now ≡ flags_of flat.now }
-    ensures { IfOk result (λ r. r.items ≡ all_slots (views_of flat.now) (names_of flat.now)) }
+    ensures slots { IfOk result (λ r. r.0.items ≡ all_slots (views_of flat.now) (names_of flat.now)) }
+    ensures first { IfOk result (λ r. AreCounts (names_of flat.now) r.1.items) }
 {
     let mut all = Vec::new(alloc);
+    let mut first = Vec::new(alloc);
     for (k, signal) in flat.signals.as_slice().iter().enumerate() {
+        first.push(all.len() as u64)?;
         let kind = kind_of(signal, registers[k]);
         cells(alloc, signal, kind, &mut all)?;
     }
-    Ok(all)
+    Ok((all, first))
 }

@@ -14,7 +14,7 @@ use Rattle.lv_flat.specs.Signals.{Signals}
 use Rattle.lv_settles.specs.Rules.{AreApart, signals_in}
 use Rattle.lv_settles.proofs.Lists.{cells_named}
 
-abbrev named_by : Name → List Cell → Bool
+abbrev pub named_by : Name → List Cell → Bool
 named_by name cs = list_any (λ (c : Cell). bytes_eq name c.name) cs
 
 find_cell : (cs : List Cell) (name : Name) → named_by name cs ≡ true → (k : ℕ) × (k < length cs) × (name ≡ (cell_at cs k).name)
@@ -49,7 +49,7 @@ signal_named d name s h =
     ap (λ b. named_by name (if b then map (cell_of (width_of d)) (cells d) else [])) s ∙
     (sym (any-map (λ (c : Cell). bytes_eq name c.name) (cell_of (width_of d)) (cells d)) ∙ h)
 
-some_named : (S : Signals) (x : Declared) (name : Name) → In x (filter is_signal S) → list_any (bytes_eq name) (cells x) ≡ true → named_by name (all_cells S) ≡ true
+pub some_named : (S : Signals) (x : Declared) (name : Name) → In x (filter is_signal S) → list_any (bytes_eq name) (cells x) ≡ true → named_by name (all_cells S) ≡ true
 some_named [] x name i h = absurd i
 some_named (d ∷ S) x name i h = elim (is_signal d) as (λ b. is_signal d ≡ b → In x (cond b (d ∷ filter is_signal S) (filter is_signal S)) → named_by name (cells_of d ++ all_cells S) ≡ true) [
   | true ↦ λ e j. elim j [

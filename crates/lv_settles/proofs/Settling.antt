@@ -3,7 +3,7 @@ use Rattle.std.proofs.Common.{◌≡◌, ◌⊎◌, inl, inr, ℕ, ◌/◌, ◌%
 use Rattle.std.specs.Prelude.{flat_map, filter, slice_get, bytes_eq, All}
 use Rattle.std.specs.List.{list_any}
 use Rattle.std.proofs.lemmas.Bool.{cases_lt}
-use Rattle.std.proofs.lemmas.Nat.Bits.{bit_at_above, bit_at-zero}
+use Rattle.std.proofs.lemmas.Nat.Bits.{same_from_bits, bit_at_above, bit_at-zero}
 use mathlib.Core.Path.{fun_ext}
 use Rattle.lv_ast.specs.Names.{Name}
 use Rattle.lv_source.specs.Names.{Declared, Valuation, width_of, is_input_sort}
@@ -53,7 +53,20 @@ module _ (ds : List Declared) (vs : List View) (order : List ℕ) (laws : AreLaw
             | inl own ↦ absurd (let t : i < width_from ds name = (laws.each k p e).within b own in omega arith)
           ]) ∙ bit_at_above (v name) (width_from ds name) i (start.fits name) h
 
-      left_fits : (name : Name) → left name < 2 ^ width_from ds name
+      -- a register and an input keep what they begin with
+      pub start_kept : (i : ℕ) (x : Declared) (name : Name) → slice_get ds i ≡ Some x → list_any (bytes_eq name) (cells x) ≡ true →
+          (is_register_view vs x ≡ true) ⊎ (is_input_sort x.sort ≡ true) → width_from ds name ≡ width_of x → left name ≡ v name
+      start_kept i x name e c g width = same_from_bits (left name) (v name) (λ j.
+          (let b : Bit = record { name = name; place = j } in
+          left_keeps b (λ k p ep w. elim (cases_lt j (width_of x)) [
+            | inl below ↦ not_driven ds vs right i x b e (cells_have (width_of x) j (cells x) name c below) g k p ep w
+            | inr above ↦ elim (decide (has_bit p.drives b)) [
+              | inr n ↦ n
+              | inl own ↦ absurd (let t : j < width_from ds name = (laws.each k p ep).within b own in omega arith)
+            ]
+          ])))
+
+      pub left_fits : (name : Name) → left name < 2 ^ width_from ds name
       left_fits name = below_power (left name) (width_from ds name) (high name)
 
       left_holds : All (λ w. (name : Name) → w.after left name ≡ left name) (filter (λ w. not (is_edge w.way)) vs)

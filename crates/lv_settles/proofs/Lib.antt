@@ -4,6 +4,7 @@ pub mod FlatParts
 mod FlatStatements
 mod FlatTrees
 pub mod Lists
+mod Nexts
 mod Ordered
 mod Rightness
 pub mod Settling

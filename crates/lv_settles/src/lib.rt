@@ -4,11 +4,13 @@
 
 ghost use Rattle.std.specs.Prelude.{◌≡◌, ℕ, List};
 ghost use Rattle.lv_source.specs.Names.{Declared, Valuation};
-ghost use Rattle.lv_source.specs.Views.{View, IsViewSettled};
+ghost use Rattle.lv_source.specs.Places.{Bit, bit_at};
+ghost use Rattle.lv_source.specs.Views.{View, IsViewSettled, next_view_bit};
 ghost use Rattle.lv_flat.specs.declared.part.FlatPart.{FlatPart};
 ghost use Rattle.lv_flat.specs.Cells.{all_cells, AreDistinct};
 ghost use Rattle.lv_flat.specs.Signals.{Signals};
 ghost use Rattle.lv_flat.specs.FlatViews.{flat_views};
+ghost use Rattle.lv_settles.specs.Clocked.{Overlay, AreOverlays, views_in, overlaid};
 ghost use Rattle.lv_settles.specs.Lawful.{AreLawful};
 ghost use Rattle.lv_settles.specs.Orders.{IsOrder, carried};
 ghost use Rattle.lv_settles.specs.Rules.{AreRight, AreApart, IsStart, SameStart, signals_in};
@@ -35,4 +37,11 @@ pub fn order_settles()
 pub fn settled_is_left()
     ensures { (ds : List Declared) (vs : List View) (order : List ℕ) (v w : Valuation) → AreLawful ds vs → AreRight ds vs → AreApart ds → IsOrder vs order →
         IsStart ds vs v → IsViewSettled ds vs w → SameStart ds vs v w → carried vs order v ≡ w }
+{}
+
+/// Where all parts with a clock read one valuation, and their writes are carried out one after another, each bit ends as the part
+/// that drives it leaves it.
+pub fn clocked_parts_give_next()
+    ensures { (ds : List Declared) (ps : List Overlay) (v : Valuation) → AreRight ds (views_in ps) → AreOverlays v ps → (b : Bit) →
+        bit_at (overlaid ps v) b ≡ next_view_bit (views_in ps) v b }
 {}

@@ -27,15 +27,12 @@ use Rattle.lv_lower.specs.declared.slot.Kind.{Kind}
 use Rattle.lv_lower.specs.declared.slot.Kind.TheVariants as k
 use Rattle.lv_lower.specs.declared.slot.Slot.{Slot}
 use Rattle.lv_lower.specs.Slots.{kind_by, slot_by, slots_of, all_slots}
-use Rattle.lv_lower.specs.Started.{net_from, slot_at, valuation_of, AreSlots}
+use Rattle.lv_lower.specs.Started.{net_from, slot_at, cell_in, valuation_of, AreSlots}
 use Rattle.lv_lower.proofs.Standing.{Stands, stands}
 use Rattle.lv_lower.proofs.Starting.{nodes-count}
 use Rattle.lv_lower.proofs.Valuations.{named_by, find-cell, shows-own, rest-zero}
 
 -- ---- cells and what their nodes are
-
-abbrev pub cell_in : Slot → Cell
-cell_in s = record { name = s.name; width = s.width }
 
 one-cells : (kind : Kind) (cs : List Cell) → map cell_in (map (slot_by kind) cs) ≡ cs
 one-cells kind [] = refl

@@ -1,6 +1,7 @@
 mod Standing
 mod Starting
 mod Valuations
+mod Nexting
 mod Slotting
 mod Asking
 mod Beginning

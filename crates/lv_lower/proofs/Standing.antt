@@ -15,10 +15,10 @@ use Rattle.lv_lower.specs.declared.slot.Slot.{Slot}
 use Rattle.lv_lower.specs.Started.{add_slot, net_from, slot_at}
 use Rattle.lv_lower.proofs.Starting.{inputs_in, registers_in}
 
-abbrev a_node : Node → ℕ → Typed
+abbrev pub a_node : Node → ℕ → Typed
 a_node node width = record { node = node; width = width }
 
-abbrev a_register : List ℕ → ℕ → List ℕ × Register
+abbrev pub a_register : List ℕ → ℕ → List ℕ × Register
 a_register name width = (name, (let r : Register = record { width = width; next = None } in r))
 
 -- the node of a cell is its input, its register or the known 0
@@ -80,7 +80,7 @@ stands-new net name width k.Register = (
 )
 stands-new net name width k.Zero = get_or_at net.nodes _ [] _ (length net.nodes) refl
 
-added : (net : Net) (name : List ℕ) (width : ℕ) (kind : Kind) → length (add_slot net (record { name = name; width = width; kind = kind })).nodes ≡ length net.nodes + 1
+pub added : (net : Net) (name : List ℕ) (width : ℕ) (kind : Kind) → length (add_slot net (record { name = name; width = width; kind = kind })).nodes ≡ length net.nodes + 1
 added net name width k.Input = length-append net.nodes _
 added net name width k.Register = length-append net.nodes _
 added net name width k.Zero = length-append net.nodes _
@@ -112,7 +112,7 @@ kept-node net (x ∷ ss) at b =
     kept-node (add_slot net x) ss at (let e : length (add_slot net x).nodes ≡ length net.nodes + 1 = added net x.name x.width x.kind in omega arith) ∙
     (longer-add net x.name x.width x.kind).nodes at b
 
-new-node : (net : Net) (ss : List Slot) (name : List ℕ) (width : ℕ) (kind : Kind) (t : Typed) → node_at (add_slot net (record { name = name; width = width; kind = kind })).nodes (length net.nodes) ≡ t →
+pub new-node : (net : Net) (ss : List Slot) (name : List ℕ) (width : ℕ) (kind : Kind) (t : Typed) → node_at (add_slot net (record { name = name; width = width; kind = kind })).nodes (length net.nodes) ≡ t →
     node_at (net_from net ((let z : Slot = record { name = name; width = width; kind = kind } in z) ∷ ss)).nodes (length net.nodes + 0) ≡ t
 new-node net ss name width kind t h =
     (let z : length net.nodes + 0 ≡ length net.nodes = omega arith in ap (λ at. node_at (net_from net ((let z : Slot = record { name = name; width = width; kind = kind } in z) ∷ ss)).nodes at) z) ∙
@@ -173,3 +173,8 @@ register-by net ss f name width k.Zero i b = register-deeper net _ ss i i refl r
 pub register-cell : (ss : List Slot) (net : Net) (i : ℕ) → i < length (registers_in ss) → RegisterCell net ss i
 register-cell [] net i b = absurd (omega arith)
 register-cell (s ∷ ss) net i b = register-by net ss (register-cell ss) s.name s.width s.kind i b
+
+pub stands-width : (kind : Kind) (net : Net) (at : ℕ) (name : List ℕ) (width : ℕ) → Stands kind net at name width → width_at net.nodes at ≡ width
+stands-width k.Input net at name width s = ap (λ t. t.width) s.1
+stands-width k.Register net at name width s = ap (λ t. t.width) s.1
+stands-width k.Zero net at name width s = ap (λ t. t.width) s

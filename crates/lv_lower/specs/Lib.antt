@@ -2,3 +2,4 @@ pub mod Slots
 pub mod Started
 pub mod Lowered
 pub mod Asked
+pub mod Nexts

@@ -26,6 +26,9 @@ net_from net (s ∷ ss) = net_from (add_slot net s) ss
 abbrev pub slot_at : List Slot → ℕ → Slot
 slot_at ss k = slice_index_or ss k (record { name = []; width = 0; kind = Zero })
 
+abbrev pub cell_in : Slot → Cell
+cell_in s = record { name = s.name; width = s.width }
+
 -- what the type of a graph asks of them
 pub record AreSlots (ss : List Slot) : Type 0 where
   pub some : (k : ℕ) → k < length ss → 1 ≤ (slot_at ss k).width

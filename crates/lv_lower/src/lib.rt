@@ -3,8 +3,10 @@
 
 mod begin;
 mod lowered;
+mod nexts;
 mod slot;
 
 pub use begin::start;
 pub use lowered::{Lowered, carried_table_settles};
+pub use nexts::{register_bits, set_nexts};
 pub use slot::{Kind, Slot, slots};

@@ -1,5 +1,5 @@
 -- What the parts leave in an order is settled, and the one such valuation.
-use Rattle.std.proofs.Common.{◌≡◌, ◌⊎◌, inl, inr, ℕ, ◌/◌, ◌%◌, ◌^◌, ◌<◌, ◌≤◌, Bool, true, false, ◌&&◌, not, List, [], ◌∷◌, refl, sym, ap, ◌∙◌, arith, subst, Some, None}
+use Rattle.std.proofs.Common.{◌≡◌, ◌⊎◌, inl, inr, ℕ, suc, ◌/◌, ◌%◌, ◌^◌, ◌<◌, ◌≤◌, Bool, true, false, ◌&&◌, not, List, [], ◌∷◌, refl, sym, ap, ◌∙◌, arith, subst, Some, None}
 use Rattle.std.specs.Prelude.{flat_map, filter, slice_get, bytes_eq, All}
 use Rattle.std.specs.List.{list_any}
 use Rattle.std.proofs.lemmas.Bool.{cases_lt}
@@ -10,7 +10,7 @@ use Rattle.lv_source.specs.Names.{Declared, Valuation, width_of, is_input_sort}
 use Rattle.lv_source.specs.Places.{Bit, bit_at, has_bit, whole, cells}
 use Rattle.lv_source.specs.Parts.{width_from}
 use Rattle.lv_source.specs.Views.{View, is_edge, view_driven, view_read, is_register_view, is_wired_view, IsViewSettled, idle_view_bits}
-use Rattle.lv_source.proofs.Tests.{decide, and-left, and-right, and-both, or-none_left, not-true, or-left}
+use Rattle.lv_source.proofs.Tests.{decide, and-left, and-right, and-both, or-none_left, not-true, or-left, or-right, name-itself}
 use Rattle.lv_source.proofs.Each.{Each}
 use Rattle.lv_source.proofs.Facts.{all_at, all_bits, all_names, cells_any, whole_any, at_any}
 use Rattle.lv_source.proofs.Within.{cells_have}
@@ -22,6 +22,20 @@ use Rattle.lv_settles.proofs.Ordered.{driven, run, Plain, Ordered, run_keeps, ru
 use Rattle.lv_settles.proofs.Carried.{picked, picked_at, each_picked, carried_run, order_stands, plain_parts, free_bit, taken_bit, OneDriver}
 use Rattle.lv_settles.proofs.Lists.{below_power, cell_of, all_bits_by, all_by, whole_of, cells_named, signal_of}
 use Rattle.lv_settles.proofs.Rightness.{one_driver, not_driven, idle}
+use Rattle.lv_settles.proofs.Cells.{width_is}
+use Rattle.lv_source.proofs.Refused.{In}
+use Rattle.lv_source.proofs.Kids.{in_index}
+use Rattle.std.proofs.lemmas.List.Elements.{All-nil, All-cons}
+
+-- the index of a signal
+pub index_of : {A : Type 0} (x : A) (xs : List A) → In x xs → (i : ℕ) × (slice_get xs i ≡ Some x)
+index_of x [] h = absurd h
+index_of x (y ∷ ys) (inl e) = (0, ap Some e)
+index_of x (y ∷ ys) (inr h) = let r : (i : ℕ) × (slice_get ys i ≡ Some x) = index_of x ys h in (suc r.0, r.1)
+
+pub all_of : (P : Name → Type 0) (ns : List Name) → ((n : Name) → list_any (bytes_eq n) ns ≡ true → P n) → All P ns
+all_of P [] f = All-nil P
+all_of P (n ∷ ns) f = All-cons P n ns (f n (or-left (bytes_eq n n) (list_any (bytes_eq n) ns) (name-itself n))) (all_of P ns (λ m h. f m (or-right (bytes_eq m n) (list_any (bytes_eq m) ns) h)))
 
 module _ (ds : List Declared) (vs : List View) (order : List ℕ) (laws : AreLawful ds vs) (right : AreRight ds vs) (o : IsOrder vs order) where
   abbrev ws : List View
@@ -103,6 +117,21 @@ module _ (ds : List Declared) (vs : List View) (order : List ℕ) (laws : AreLaw
               | inr n ↦ n
               | inl own ↦ clash (view_driven vs b) (at_any (λ q. has_bit q.drives b) vs k p e own) undriven
             ]) ∙ (ap (λ n. n / 2 ^ b.place % 2) (rest_zero x.0 x.1 b.name x.2 x.3 (cells_named (width_of x.1) (cells x.1) b x.4)) ∙ bit_at-zero b.place)))
+
+        width_of_name : (i : ℕ) (x : Declared) (name : Name) → slice_get ds i ≡ Some x → list_any (bytes_eq name) (cells x) ≡ true → width_from ds name ≡ width_of x
+        width_of_name i x name e c = width_is ds name x (in_index x ds i e) (λ y j h.
+            (let k : (k : ℕ) × (slice_get ds k ≡ Some y) = index_of y ds j in apart.apart k.0 i y x name k.1 e h c)) c
+
+        -- registers and inputs keep their values
+        pub keeps_start : SameStart ds vs v left
+        keeps_start = record {
+          registers = all_of (λ name. v name ≡ left name) (register_names ds vs) (λ name h.
+              (let x : (i : ℕ) × (x : Declared) × (slice_get ds i ≡ Some x) × (is_register_view vs x ≡ true) × (list_any (bytes_eq name) (cells x) ≡ true) = cell_of (is_register_view vs) ds name h in
+              sym (start_kept x.0 x.1 name x.2 x.4 (inl x.3) (width_of_name x.0 x.1 name x.2 x.4))));
+          inputs = all_of (λ name. v name ≡ left name) (input_names ds) (λ name h.
+              (let x : (i : ℕ) × (x : Declared) × (slice_get ds i ≡ Some x) × (is_input_sort x.sort ≡ true) × (list_any (bytes_eq name) (cells x) ≡ true) = cell_of (λ x. is_input_sort x.sort) ds name h in
+              sym (start_kept x.0 x.1 name x.2 x.4 (inr x.3) (width_of_name x.0 x.1 name x.2 x.4))));
+        }
 
         pub settles : IsViewSettled ds vs left
         settles = record { fits = left_fits; holds = left_holds; idle = left_idle }

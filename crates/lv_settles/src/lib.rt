@@ -27,10 +27,13 @@ pub fn signals_are_apart()
     ensures { (S : Signals) → AreDistinct (all_cells S) → AreApart (signals_in S) }
 {}
 
-/// What the parts without a clock leave, one after another in an order, is settled.
+/// What the parts without a clock leave, one after another in an order, is settled, and has the registers and inputs that were
+/// there at first.
 pub fn order_settles()
-    ensures { (ds : List Declared) (vs : List View) (order : List ℕ) (v : Valuation) → AreLawful ds vs → AreRight ds vs → AreApart ds → IsOrder vs order →
+    ensures settled { (ds : List Declared) (vs : List View) (order : List ℕ) (v : Valuation) → AreLawful ds vs → AreRight ds vs → AreApart ds → IsOrder vs order →
         IsStart ds vs v → IsViewSettled ds vs (carried vs order v) }
+    ensures kept { (ds : List Declared) (vs : List View) (order : List ℕ) (v : Valuation) → AreLawful ds vs → AreRight ds vs → AreApart ds → IsOrder vs order →
+        IsStart ds vs v → SameStart ds vs v (carried vs order v) }
 {}
 
 /// Each settled valuation is what they leave of its registers and inputs.

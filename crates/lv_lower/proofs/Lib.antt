@@ -1,6 +1,7 @@
 mod Standing
 mod Starting
 mod Valuations
+mod Finishing
 mod Nexting
 mod Slotting
 mod Asking

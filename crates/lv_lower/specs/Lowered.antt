@@ -3,6 +3,7 @@ use Rattle.std.specs.Prelude.{◌≡◌, ℕ, ◌<◌, ◌/◌, ◌%◌, ◌^◌
 use Rattle.std.specs.List.{range_with_len}
 use Rattle.lv_ast.specs.Names.{Name}
 use Rattle.lv_source.specs.Names.{Declared, Valuation, is_input_sort}
+use Rattle.lv_source.specs.Places.{Bit, bit_at}
 use Rattle.lv_source.specs.Views.{View, IsViewSettled, next_view_bit, view_registers}
 use Rattle.lv_netlist.specs.declared.node.Register.{Register}
 use Rattle.lv_netlist.specs.Net.{Net, no_nodes, input_name, register_name, register_width, register_next}
@@ -54,3 +55,8 @@ pub record IsCarried (S : Signals) (vs : List View) (order : List ℕ) (net : Ne
   pub table_is : IsTable net (all_cells S) table
   pub leaves : (w : World) (v : Valuation) → Obeys net w → Shows w (all_cells S) (range_with_len 0 (length (all_slots vs S))) v →
       Shows w (all_cells S) table (carried vs order v)
+
+-- and one that shows what the parts with a clock leave of it
+pub record LeavesNext (S : Signals) (vs : List View) (net : Net) (table done : List ℕ) : Type 0 where
+  pub is : (w : World) → Obeys net w → (u : Valuation) × Shows w (all_cells S) done u ×
+      ((b : Bit) → bit_at u b ≡ next_view_bit vs (valuation_of w (all_cells S) table) b)

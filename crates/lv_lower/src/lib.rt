@@ -7,6 +7,6 @@ mod nexts;
 mod slot;
 
 pub use begin::start;
-pub use lowered::{Lowered, carried_table_settles};
+pub use lowered::{Lowered, carried_table_settles, table_with_nexts_is_lowered};
 pub use nexts::{register_bits, set_nexts};
 pub use slot::{Kind, Slot, slots};

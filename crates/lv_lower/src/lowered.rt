@@ -1,15 +1,16 @@
 ghost use Rattle.std.specs.Prelude.{◌≡◌, ℕ, true, List, IfOk};
 ghost use Rattle.lv_source.specs.Views.{View};
-ghost use Rattle.lv_netlist.specs.Net.{Net};
+ghost use Rattle.lv_netlist.specs.Net.{Net, HasNexts};
 ghost use Rattle.lv_flat.specs.Cells.{all_cells, AreDistinct};
 ghost use Rattle.lv_flat.specs.Signals.{Signals};
 ghost use Rattle.lv_flat.specs.Judged.{is_good};
 ghost use Rattle.lv_lower_exprs.specs.Tables.{IsTable, AreFirsts};
-ghost use Rattle.lv_lower.specs.Slots.{names_of};
+ghost use Rattle.lv_lower.specs.Slots.{names_of, all_slots};
+ghost use Rattle.lv_lower.specs.Nexts.{with_nexts};
 ghost use Rattle.lv_settles.specs.Lawful.{AreLawful};
 ghost use Rattle.lv_settles.specs.Orders.{IsOrder};
 ghost use Rattle.lv_settles.specs.Rules.{AreRight, signals_in};
-ghost use Rattle.lv_lower.specs.Lowered.{IsLowered, IsSettling, IsCarried};
+ghost use Rattle.lv_lower.specs.Lowered.{IsLowered, IsSettling, IsCarried, LeavesNext};
 ghost use Rattle.lv_lower.specs.Asked.{Expresses};
 
 use lv_bits::NoMemory;
@@ -81,4 +82,14 @@ impl Lowered {
 pub fn carried_table_settles()
     ensures { (S : Signals) (vs : List View) (order : List ℕ) (net : Net) (table : List ℕ) → AreDistinct (all_cells S) → AreLawful (signals_in S) vs →
         AreRight (signals_in S) vs → IsOrder vs order → IsCarried S vs order net table → IsSettling S vs net table }
+{}
+
+/// Where registers get as their next nodes those of a table that shows what the parts with a clock leave, the graph is that of the
+/// design. It does nothing: its contract is the law.
+pub fn table_with_nexts_is_lowered()
+    ensures lowered { (S : Signals) (vs : List View) (order : List ℕ) (old : Net) (table done first : List ℕ) → IsCarried S vs order old table →
+        IsSettling S vs old table → AreFirsts S first → IsTable old (all_cells S) done → LeavesNext S vs old table done →
+        IsLowered S vs (with_nexts old (all_slots vs S) done) table first }
+    ensures whole { (S : Signals) (vs : List View) (order : List ℕ) (old : Net) (table done : List ℕ) → IsCarried S vs order old table →
+        IsTable old (all_cells S) done → HasNexts (with_nexts old (all_slots vs S) done) }
 {}

@@ -1,14 +1,13 @@
 -- A longer graph is still that of the design.
-use Rattle.std.proofs.Common.{◌≡◌, ℕ, ◌<◌, ◌≤◌, List, length, map, refl, sym, ap, ◌∙◌, arith, subst}
+use Rattle.std.proofs.Common.{ℕ, ◌<◌, ◌≤◌, List, length, map, sym, ap, ◌∙◌, arith, subst}
 use Rattle.lv_source.specs.Names.{Valuation}
 use Rattle.lv_source.specs.Places.{Bit}
 use Rattle.lv_source.specs.Views.{View, next_view_bit}
 use Rattle.lv_netlist.specs.declared.node.Register.{Register}
-use Rattle.lv_netlist.specs.Net.{Net, node_at, width_at, register_at, input_at}
-use Rattle.lv_netlist.specs.Run.{bits_at}
+use Rattle.lv_netlist.specs.Net.{Net, register_at, input_at}
 use Rattle.lv_flat.specs.Cells.{Cell, all_cells}
 use Rattle.lv_flat.specs.Signals.{Signals}
-use Rattle.lv_values.specs.Worlds.{World, Obeys, Grows}
+use Rattle.lv_values.specs.Worlds.{World, Grows}
 use Rattle.lv_values.proofs.Growth.{obeys-before}
 use Rattle.lv_lower_exprs.specs.Tables.{IsTable}
 use Rattle.lv_lower.specs.Started.{valuation_of}

@@ -1,20 +1,20 @@
 -- The valuation of the first table: inputs and registers have their values, and all else is 0.
-use Rattle.std.proofs.Common.{◌≡◌, ◌⊎◌, inl, inr, ℕ, zero, suc, ◌+◌, ◌<◌, ◌≤◌, ◌^◌, Bool, true, false, List, [], ◌∷◌, ◌++◌, length, map, refl, sym, ap, ◌∙◌, arith, subst, get_or, Some, None}
+use Rattle.std.proofs.Common.{◌≡◌, inl, inr, ℕ, zero, suc, ◌+◌, ◌<◌, ◌≤◌, ◌^◌, Bool, true, false, List, [], ◌∷◌, ◌++◌, length, map, refl, sym, ap, ◌∙◌, arith, subst}
 use Rattle.std.specs.Prelude.{flat_map, filter, cond, slice_index, bytes_eq, if◌then◌else◌}
 use Rattle.std.specs.List.{list_any, range_with_len}
 use Rattle.std.proofs.lemmas.Nat.{pow_pos}
-use Rattle.std.proofs.lemmas.List.{length-map, get_or_default}
+use Rattle.std.proofs.lemmas.List.{length-map}
 use Rattle.lv_ast.specs.Names.{Name}
 use Rattle.lv_bits.specs.Words.{Bits}
-use Rattle.lv_source.specs.Names.{Declared, Valuation, width_of, is_input_sort, is_signal_sort}
+use Rattle.lv_source.specs.Names.{Declared, Valuation, width_of, is_input_sort}
 use Rattle.lv_source.specs.Places.{cells}
 use Rattle.lv_source.specs.Parts.{is_signal, width_from}
 use Rattle.lv_source.specs.Views.{View, is_register_view}
-use Rattle.lv_source.proofs.Each.{Each, each-map, each-join}
-use Rattle.lv_source.proofs.Tests.{decide, any-left, any-right, or-left, or-right, name-itself, and-left}
+use Rattle.lv_source.proofs.Each.{Each, each-join}
+use Rattle.lv_source.proofs.Tests.{decide, any-left, any-right, or-left, or-right, name-itself}
 use Rattle.lv_source.proofs.Refused.{In}
-use Rattle.lv_netlist.specs.Net.{Net, no_nodes, node_at, width_at}
-use Rattle.lv_netlist.specs.Run.{bits_at, node_bits}
+use Rattle.lv_netlist.specs.Net.{Net, no_nodes, width_at}
+use Rattle.lv_netlist.specs.Run.{node_bits}
 use Rattle.lv_flat.specs.Cells.{Cell, cell_of, cells_of, all_cells, cell_at, AreDistinct}
 use Rattle.lv_flat.specs.Signals.{Signals}
 use Rattle.lv_values.specs.Worlds.{World, Obeys, Grows}
@@ -27,7 +27,7 @@ use Rattle.lv_lower.specs.declared.slot.Kind.{Kind}
 use Rattle.lv_lower.specs.declared.slot.Kind.TheVariants as k
 use Rattle.lv_lower.specs.declared.slot.Slot.{Slot}
 use Rattle.lv_lower.specs.Slots.{kind_by, slot_by, slots_of, all_slots}
-use Rattle.lv_lower.specs.Started.{net_from, slot_at, cell_in, valuation_of, AreSlots}
+use Rattle.lv_lower.specs.Started.{net_from, slot_at, cell_in, valuation_of}
 use Rattle.lv_lower.proofs.Standing.{Stands, stands}
 use Rattle.lv_lower.proofs.Starting.{nodes-count}
 use Rattle.lv_lower.proofs.Valuations.{named_by, find-cell, shows-own, rest-zero}

@@ -1,7 +1,7 @@
 -- The table that the parts leave shows the one settled valuation.
-use Rattle.std.proofs.Common.{◌≡◌, ◌⊎◌, inl, inr, ℕ, zero, suc, ◌+◌, ◌<◌, ◌≤◌, ◌^◌, Bool, true, false, List, [], ◌∷◌, length, refl, sym, ap, ◌∙◌, arith, subst, Some, None}
-use Rattle.std.specs.Prelude.{filter, slice_get, bytes_eq, All, flat_map}
-use Rattle.std.specs.List.{list_any, range_with_len}
+use Rattle.std.proofs.Common.{◌≡◌, ◌⊎◌, inl, inr, ℕ, suc, ◌+◌, ◌<◌, ◌^◌, Bool, true, false, List, [], ◌∷◌, length, refl, sym, ap, ◌∙◌, arith, subst, Some}
+use Rattle.std.specs.Prelude.{slice_get, bytes_eq, All}
+use Rattle.std.specs.List.{list_any}
 use Rattle.std.proofs.lemmas.List.Elements.{All-nil, All-cons}
 use Rattle.lv_ast.specs.Names.{Name}
 use Rattle.lv_bits.specs.Words.{Bits}
@@ -17,10 +17,10 @@ use Rattle.lv_netlist.specs.declared.node.Node.TheVariants as n
 use Rattle.lv_netlist.specs.declared.node.Typed.{Typed}
 use Rattle.lv_netlist.specs.declared.node.Register.{Register}
 use Rattle.lv_netlist.specs.Net.{Net, no_nodes, node_at, input_at, input_name, register_at, register_name}
-use Rattle.lv_netlist.specs.Run.{bits_at, node_bits}
-use Rattle.lv_flat.specs.Cells.{Cell, all_cells, cell_at, AreDistinct}
+use Rattle.lv_netlist.specs.Run.{node_bits}
+use Rattle.lv_flat.specs.Cells.{Cell, all_cells, AreDistinct}
 use Rattle.lv_flat.specs.Signals.{Signals}
-use Rattle.lv_values.specs.Worlds.{World, Obeys, Grows}
+use Rattle.lv_values.specs.Worlds.{World, Obeys}
 use Rattle.lv_lower_exprs.specs.Tables.{Shows, value_at}
 use Rattle.lv_settles.specs.Lawful.{AreLawful}
 use Rattle.lv_settles.specs.Orders.{IsOrder, carried}
@@ -36,8 +36,8 @@ use Rattle.lv_lower.specs.Started.{net_from, slot_at, valuation_of}
 use Rattle.lv_lower.specs.Lowered.{IsGiven, IsSettling, IsCarried}
 use Rattle.lv_lower.proofs.Starting.{inputs_in, registers_in, inputs-are, registers-are}
 use Rattle.lv_lower.proofs.Standing.{Stands, input-cell, register-cell}
-use Rattle.lv_lower.proofs.Valuations.{named_by, find-cell, valuation-is}
-use Rattle.lv_lower.proofs.Beginning.{SlotOf, slot-of, v0, shows-start, value-is, found, in-net, inside, stands-at, starts, cells-count, cell-slot}
+use Rattle.lv_lower.proofs.Valuations.{named_by, valuation-is}
+use Rattle.lv_lower.proofs.Beginning.{SlotOf, slot-of, v0, shows-start, value-is, found, in-net, inside, stands-at, starts}
 
 -- the index of a signal
 index_of : {A : Type 0} (x : A) (xs : List A) → In x xs → (i : ℕ) × (slice_get xs i ≡ Some x)

@@ -1,7 +1,6 @@
 -- A graph whose registers have their next nodes is that of the design.
-use Rattle.std.proofs.Common.{◌≡◌, inl, inr, ℕ, zero, suc, ◌+◌, ◌/◌, ◌%◌, ◌^◌, ◌<◌, ◌≤◌, Bool, true, false, ◌&&◌, List, [], ◌∷◌, ◌++◌, length, map, refl, sym, ap, ◌∙◌, arith, subst, Option, Some, None}
-use Rattle.std.specs.Prelude.{filter, cond, flat_map, slice_index, if◌then◌else◌}
-use Rattle.std.proofs.lemmas.List.{append-nil}
+use Rattle.std.proofs.Common.{◌≡◌, ℕ, zero, suc, ◌/◌, ◌%◌, ◌^◌, ◌<◌, Bool, true, false, List, [], ◌∷◌, ◌++◌, length, map, refl, sym, ap, ◌∙◌, arith, subst, Some, None}
+use Rattle.std.specs.Prelude.{filter, cond, slice_index, if◌then◌else◌}
 use Rattle.lv_source.specs.Names.{Declared, Valuation, Sort, Input, Net, Variable, Clock, Constant, Index, Other, is_input_sort, is_variable_sort, width_of}
 use Rattle.lv_source.specs.Places.{Bit, bit_at, cells}
 use Rattle.lv_source.specs.Parts.{is_signal}
@@ -14,15 +13,15 @@ use Rattle.lv_netlist.specs.Net.{no_nodes, register_at, register_name, register_
 use Rattle.lv_netlist.specs.Net as net
 use Rattle.lv_flat.specs.Cells.{Cell, cell_of, cells_of, all_cells, cell_at}
 use Rattle.lv_flat.specs.Signals.{Signals}
-use Rattle.lv_values.specs.Worlds.{World, Obeys, Grows}
+use Rattle.lv_values.specs.Worlds.{World, Obeys}
 use Rattle.lv_lower_exprs.specs.Tables.{IsTable, AreFirsts, Shows, value_at}
 use Rattle.lv_settles.specs.Rules.{signals_in}
 use Rattle.lv_lower.specs.declared.slot.Kind.{Kind}
 use Rattle.lv_lower.specs.declared.slot.Kind.TheVariants as k
 use Rattle.lv_lower.specs.declared.slot.Slot.{Slot}
 use Rattle.lv_lower.specs.Slots.{kind_by, slot_by, slots_of, all_slots}
-use Rattle.lv_lower.specs.Started.{net_from, slot_at, cell_in, valuation_of}
-use Rattle.lv_lower.specs.Nexts.{next_all, held_by, held_in, with_nexts}
+use Rattle.lv_lower.specs.Started.{slot_at, valuation_of}
+use Rattle.lv_lower.specs.Nexts.{next_all, held_in, with_nexts}
 use Rattle.lv_lower.specs.Lowered.{IsGiven, IsNext, IsSettling, IsLowered, IsCarried, LeavesNext, entry_of, register_entry}
 use Rattle.lv_lower.proofs.Starting.{inputs_in, registers_in, inputs-are, registers-are}
 use Rattle.lv_lower.proofs.Standing.{a_register}

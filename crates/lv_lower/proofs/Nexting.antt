@@ -1,11 +1,10 @@
 -- The next nodes of registers, one after another.
-use Rattle.std.proofs.Common.{◌≡◌, inl, inr, ℕ, zero, suc, ◌+◌, ◌*◌, ◌<◌, ◌≤◌, Bool, true, false, List, [], ◌∷◌, ◌++◌, length, map, take, refl, sym, ap, ◌∙◌, arith, subst, get_or, Some, None}
+use Rattle.std.proofs.Common.{◌≡◌, ℕ, zero, suc, ◌+◌, ◌<◌, ◌≤◌, true, false, List, [], ◌∷◌, ◌++◌, length, map, take, refl, sym, ap, ◌∙◌, arith, Some}
 use Rattle.std.specs.Prelude.{slice_set, slice_index, slice_index_or}
 use Rattle.std.proofs.lemmas.List.{length-append, append-nil, take_more, get_or_default, get_or_at, length-map}
 use Rattle.lv_netlist.specs.declared.node.Node.TheVariants as n
 use Rattle.lv_netlist.specs.declared.node.Register.{Register}
 use Rattle.lv_netlist.specs.Net.{Net, no_nodes, node_at, width_at, register_at, with_next}
-use Rattle.lv_source.proofs.Bridges.{two}
 use Rattle.lv_lower.specs.declared.slot.Kind.{Kind}
 use Rattle.lv_lower.specs.declared.slot.Kind.TheVariants as k
 use Rattle.lv_lower.specs.declared.slot.Slot.{Slot}

@@ -1,6 +1,6 @@
 -- The cells of the first signals and of one more.
 use Rattle.std.proofs.Common.{◌≡◌, inl, inr, ℕ, zero, suc, ◌+◌, ◌<◌, Bool, List, [], ◌∷◌, ◌++◌, length, map, take, refl, sym, ap, ◌∙◌, arith, get_or, true, append_assoc}
-use Rattle.std.specs.Prelude.{flat_map, slice_index_or, if◌then◌else◌, ◌-◌, ◌≤◌, Option, Some, None}
+use Rattle.std.specs.Prelude.{if◌then◌else◌, ◌-◌, ◌≤◌, Option, Some, None}
 use Rattle.std.specs.List.{range_with_len}
 use Rattle.std.specs.Prelude.{slice_index}
 use Rattle.std.proofs.lemmas.Bool.{cases_lt}
@@ -14,7 +14,7 @@ use Rattle.lv_source.proofs.Bridges.{map-map}
 use Rattle.lv_source.specs.Views.{View, is_register_view}
 use Rattle.lv_source.proofs.Summaries.{flat-join}
 use Rattle.lv_flat.specs.declared.signal.Signal.{Signal}
-use Rattle.lv_flat.specs.Cells.{Cell, cell_of, cells_of, all_cells}
+use Rattle.lv_flat.specs.Cells.{cell_of, cells_of, all_cells}
 use Rattle.lv_flat.specs.Signals.{Signals, declared, declared_all}
 use Rattle.lv_lower.specs.declared.slot.Kind.{Kind}
 use Rattle.lv_lower.specs.declared.slot.Slot.{Slot}

@@ -1,14 +1,11 @@
 -- Where the node of each cell stands before the parts are carried out.
-use Rattle.std.proofs.Common.{◌≡◌, inl, inr, ℕ, zero, suc, ◌+◌, ◌<◌, ◌≤◌, List, [], ◌∷◌, ◌++◌, length, refl, sym, ap, ◌∙◌, arith, subst, Some, None}
-use Rattle.std.proofs.lemmas.List.{length-append, append-nil, get_or_append_left, get_or_at}
+use Rattle.std.proofs.Common.{◌≡◌, ℕ, zero, suc, ◌+◌, ◌<◌, ◌≤◌, List, [], ◌∷◌, ◌++◌, length, refl, ap, ◌∙◌, arith, subst, None}
+use Rattle.std.proofs.lemmas.List.{length-append, get_or_append_left, get_or_at}
 use Rattle.lv_netlist.specs.declared.node.Node.{Node}
 use Rattle.lv_netlist.specs.declared.node.Node.TheVariants as n
 use Rattle.lv_netlist.specs.declared.node.Typed.{Typed}
 use Rattle.lv_netlist.specs.declared.node.Register.{Register}
-use Rattle.lv_netlist.specs.Net.{Net, no_nodes, node_at, width_at, input_at, register_at}
-use Rattle.lv_netlist.specs.Run.{bits_at}
-use Rattle.lv_values.specs.Worlds.{World, Obeys, Grows}
-use Rattle.lv_lower_exprs.specs.Tables.{value_at}
+use Rattle.lv_netlist.specs.Net.{Net, node_at, width_at, input_at, register_at}
 use Rattle.lv_lower.specs.declared.slot.Kind.{Kind}
 use Rattle.lv_lower.specs.declared.slot.Kind.TheVariants as k
 use Rattle.lv_lower.specs.declared.slot.Slot.{Slot}
@@ -69,12 +66,14 @@ longer-add net name width k.Zero = record {
 
 stands-new : (net : Net) (name : List ℕ) (width : ℕ) (kind : Kind) → Stands kind (add_slot net (record { name = name; width = width; kind = kind })) (length net.nodes) name width
 stands-new net name width k.Input = (
-  length net.inputs, get_or_at net.nodes _ [] _ (length net.nodes) refl,
+  length net.inputs,
+  get_or_at net.nodes _ [] _ (length net.nodes) refl,
   (let e : length (net.inputs ++ (name, width) ∷ []) ≡ length net.inputs + 1 = length-append net.inputs ((name, width) ∷ []) in omega arith),
   get_or_at net.inputs _ [] _ (length net.inputs) refl,
 )
 stands-new net name width k.Register = (
-  length net.registers, get_or_at net.nodes _ [] _ (length net.nodes) refl,
+  length net.registers,
+  get_or_at net.nodes _ [] _ (length net.nodes) refl,
   (let e : length (net.registers ++ a_register name width ∷ []) ≡ length net.registers + 1 = length-append net.registers (a_register name width ∷ []) in omega arith),
   get_or_at net.registers _ [] _ (length net.registers) refl,
 )
@@ -145,10 +144,14 @@ register-deeper net s ss i j e f c =
 
 input-by : (net : Net) (ss : List Slot) → ((new : Net) (i : ℕ) → i < length (inputs_in ss) → InputCell new ss i) → (name : List ℕ) (width : ℕ) (kind : Kind) →
     (let s : Slot = record { name = name; width = width; kind = kind } in (i : ℕ) → i < length (inputs_in (s ∷ ss)) → InputCell net (s ∷ ss) i)
-input-by net ss f name width k.Input zero b =
-    (0, omega arith, refl,
-    ap (λ (t : Typed). t.node) (new-node net ss name width k.Input (a_node (n.Input (length net.inputs)) width) (get_or_at net.nodes _ [] _ (length net.nodes) refl)) ∙
-    (let z : length net.inputs ≡ length net.inputs + 0 = omega arith in ap n.Input z), refl)
+input-by net ss f name width k.Input zero b = (
+  0,
+  omega arith,
+  refl,
+  ap (λ (t : Typed). t.node) (new-node net ss name width k.Input (a_node (n.Input (length net.inputs)) width) (get_or_at net.nodes _ [] _ (length net.nodes) refl)) ∙
+      (let z : length net.inputs ≡ length net.inputs + 0 = omega arith in ap n.Input z),
+  refl,
+)
 input-by net ss f name width k.Input (suc i) b =
     input-deeper net _ ss i (suc i) (let e : length (net.inputs ++ (name, width) ∷ []) ≡ length net.inputs + 1 = length-append net.inputs ((name, width) ∷ []) in omega arith) refl (f _ i (omega arith))
 input-by net ss f name width k.Register i b = input-deeper net _ ss i i refl refl (f _ i b)
@@ -160,10 +163,14 @@ input-cell (s ∷ ss) net i b = input-by net ss (input-cell ss) s.name s.width s
 
 register-by : (net : Net) (ss : List Slot) → ((new : Net) (i : ℕ) → i < length (registers_in ss) → RegisterCell new ss i) → (name : List ℕ) (width : ℕ) (kind : Kind) →
     (let s : Slot = record { name = name; width = width; kind = kind } in (i : ℕ) → i < length (registers_in (s ∷ ss)) → RegisterCell net (s ∷ ss) i)
-register-by net ss f name width k.Register zero b =
-    (0, omega arith, refl,
-    ap (λ (t : Typed). t.node) (new-node net ss name width k.Register (a_node (n.Reg (length net.registers)) width) (get_or_at net.nodes _ [] _ (length net.nodes) refl)) ∙
-    (let z : length net.registers ≡ length net.registers + 0 = omega arith in ap n.Reg z), refl)
+register-by net ss f name width k.Register zero b = (
+  0,
+  omega arith,
+  refl,
+  ap (λ (t : Typed). t.node) (new-node net ss name width k.Register (a_node (n.Reg (length net.registers)) width) (get_or_at net.nodes _ [] _ (length net.nodes) refl)) ∙
+      (let z : length net.registers ≡ length net.registers + 0 = omega arith in ap n.Reg z),
+  refl,
+)
 register-by net ss f name width k.Register (suc i) b =
     register-deeper net _ ss i (suc i) (let e : length (net.registers ++ a_register name width ∷ []) ≡ length net.registers + 1 = length-append net.registers (a_register name width ∷ []) in omega arith) refl
     (f _ i (omega arith))

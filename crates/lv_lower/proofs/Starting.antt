@@ -1,14 +1,10 @@
 -- The graph before the parts are carried out: its nodes, its inputs and its registers.
-use Rattle.std.proofs.Common.{◌≡◌, inl, inr, ℕ, zero, suc, ◌+◌, ◌<◌, ◌≤◌, min, List, [], ◌∷◌, ◌++◌, length, map, take, refl, sym, ap, ◌∙◌, arith, subst, append_assoc, Some, None}
-use Rattle.std.specs.Prelude.{slice_index_or, get_or}
+use Rattle.std.proofs.Common.{◌≡◌, ℕ, zero, suc, ◌+◌, ◌<◌, ◌≤◌, min, List, [], ◌∷◌, ◌++◌, length, take, refl, sym, ap, ◌∙◌, arith, subst, append_assoc, None}
+use Rattle.std.specs.Prelude.{slice_index_or}
 use Rattle.std.specs.List.{range_with_len}
-use Rattle.std.proofs.lemmas.Bool.{cases_lt}
-use Rattle.std.proofs.lemmas.List.{get_or_default, take_more, length-append, length-take, append-nil, get_or_append_left, get_or_at, get_or-take}
-use Rattle.lv_netlist.specs.declared.node.Node.{Node}
-use Rattle.lv_netlist.specs.declared.node.Node.TheVariants as n
-use Rattle.lv_netlist.specs.declared.node.Typed.{Typed}
+use Rattle.std.proofs.lemmas.List.{get_or_default, take_more, length-append, length-take, append-nil, get_or-take}
 use Rattle.lv_netlist.specs.declared.node.Register.{Register}
-use Rattle.lv_netlist.specs.Net.{Net, IsNew, no_nodes, node_at, input_at, input_name, register_at, register_name}
+use Rattle.lv_netlist.specs.Net.{Net, IsNew, no_nodes, input_at, input_name, register_at, register_name}
 use Rattle.lv_lower.specs.declared.slot.Kind.{Kind}
 use Rattle.lv_lower.specs.declared.slot.Kind.TheVariants as k
 use Rattle.lv_lower.specs.declared.slot.Slot.{Slot}
@@ -153,8 +149,8 @@ pub start-more : (ss : List Slot) (i : ℕ) (net new : Net) (table : List ℕ) (
 start-more ss i net new table s at lt item is step number t = (
   step ∙ (ap (λ (n : Net). add_slot n s) is ∙ (ap (add_slot (net_from no_nodes (take i ss))) (sym item) ∙ sym (net-more no_nodes ss i lt))),
   (let count : length (net_from no_nodes (take i ss)).nodes ≡ length no_nodes.nodes + length (take i ss) = nodes-count no_nodes (take i ss) in
-  let cut : length (take i ss) ≡ min i (length ss) = length-take i ss in
-  let short : length (take i ss) ≡ i = omega arith in
-  let e : at ≡ 0 + i = number ∙ (ap (λ (n : Net). length n.nodes) is ∙ (count ∙ (let z : 0 + length (take i ss) ≡ 0 + i = omega arith in z))) in
-  ap (λ xs. xs ++ at ∷ []) t ∙ (ap (λ x. range_with_len 0 i ++ x ∷ []) e ∙ sym (range-more 0 i))),
+      let cut : length (take i ss) ≡ min i (length ss) = length-take i ss in
+      let short : length (take i ss) ≡ i = omega arith in
+      let e : at ≡ 0 + i = number ∙ (ap (λ (n : Net). length n.nodes) is ∙ (count ∙ (let z : 0 + length (take i ss) ≡ 0 + i = omega arith in z))) in
+      ap (λ xs. xs ++ at ∷ []) t ∙ (ap (λ x. range_with_len 0 i ++ x ∷ []) e ∙ sym (range-more 0 i))),
 )

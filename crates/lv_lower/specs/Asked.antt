@@ -2,7 +2,7 @@
 use Rattle.std.specs.Prelude.{◌≡◌, ℕ, ◌<◌, length}
 use Rattle.lv_source.specs.Names.{Valuation}
 use Rattle.lv_source.specs.Values.{own_value}
-use Rattle.lv_netlist.specs.Net.{Net, width_at}
+use Rattle.lv_netlist.specs.Net.{width_at}
 use Rattle.lv_flat.specs.declared.expr.FlatExpr.{FlatExpr}
 use Rattle.lv_flat.specs.Cells.{all_cells}
 use Rattle.lv_flat.specs.Signals.{Signals}

@@ -1,8 +1,7 @@
 -- A flat design as a graph: the valuations of its worlds are the settled valuations of the design.
 use Rattle.std.specs.Prelude.{◌≡◌, ℕ, ◌<◌, ◌/◌, ◌%◌, ◌^◌, List, length, map, filter, Some}
 use Rattle.std.specs.List.{range_with_len}
-use Rattle.lv_ast.specs.Names.{Name}
-use Rattle.lv_source.specs.Names.{Declared, Valuation, is_input_sort}
+use Rattle.lv_source.specs.Names.{Valuation, is_input_sort}
 use Rattle.lv_source.specs.Places.{Bit, bit_at}
 use Rattle.lv_source.specs.Views.{View, IsViewSettled, next_view_bit, view_registers}
 use Rattle.lv_netlist.specs.declared.node.Register.{Register}

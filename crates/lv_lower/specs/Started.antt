@@ -1,6 +1,5 @@
 -- A graph with a node for each cell, as it is before the parts are carried out.
 use Rattle.std.specs.Prelude.{◌≡◌, ℕ, ◌<◌, ◌≤◌, List, [], ◌∷◌, length, slice_index_or, bytes_eq, if◌then◌else◌}
-use Rattle.lv_ast.specs.Names.{Name}
 use Rattle.lv_source.specs.Names.{Valuation}
 use Rattle.lv_netlist.specs.declared.node.Node.TheVariants.{Const}
 use Rattle.lv_netlist.specs.Net.{Net, with_node, with_input, with_register}

@@ -89,12 +89,7 @@ fn has_cells(signal: &Signal) -> bool
 }
 
 /// Adds the cells of a signal.
-fn cells(
-    alloc: Global,
-    signal: &Signal,
-    kind: Kind,
-    slots: &mut Vec<Slot>,
-) -> Result<(), NoMemory>
+fn cells(alloc: Global, signal: &Signal, kind: Kind, slots: &mut Vec<Slot>) -> Result<(), NoMemory>
     ensures { OnOk result (slots.new.items ≡ slots.old.items ++ map (slot_by kind) (cells_of (declared signal.now))) }
 {
     if !has_cells(signal) {

@@ -1,17 +1,15 @@
 -- An order of the parts as a list of parts.
-use Rattle.std.proofs.Common.{◌≡◌, ◌⊎◌, inl, inr, ℕ, zero, suc, ◌+◌, ◌≤◌, Bool, true, false, ◌||◌, List, [], ◌∷◌, refl, sym, ap, ◌∙◌, arith, subst, Option, Some, None}
+use Rattle.std.proofs.Common.{◌≡◌, ℕ, zero, suc, ◌+◌, ◌≤◌, true, false, ◌||◌, List, [], ◌∷◌, refl, sym, ap, ◌∙◌, arith, subst, Option, Some, None}
 use Rattle.std.specs.Prelude.{slice_get}
-use Rattle.std.specs.List.{list_any}
-use Rattle.lv_ast.specs.Names.{Name}
 use Rattle.lv_source.specs.Names.{Declared, Valuation}
-use Rattle.lv_source.specs.Places.{Bit, bit_at, has_bit}
+use Rattle.lv_source.specs.Places.{Bit, has_bit}
 use Rattle.lv_source.specs.Views.{View, is_edge}
-use Rattle.lv_source.proofs.Each.{Each, each-imp}
+use Rattle.lv_source.proofs.Each.{Each}
 use Rattle.lv_source.proofs.Facts.{some_same}
 use Rattle.lv_source.proofs.Settles.{none_each}
-use Rattle.lv_settles.specs.Lawful.{is_outside, IsLawful, AreLawful}
+use Rattle.lv_settles.specs.Lawful.{is_outside, AreLawful}
 use Rattle.lv_settles.specs.Orders.{IsOrder, after_one, carried}
-use Rattle.lv_settles.proofs.Ordered.{driven, run, Before, Ordered, Plain, run_keeps, run_settles, run_meets}
+use Rattle.lv_settles.proofs.Ordered.{driven, run, Ordered, Plain}
 
 abbrev one : Option View → List View
 one None = []
@@ -82,13 +80,16 @@ module _ (vs : List View) where
 
   ordered_with : (k : ℕ) (ks : List ℕ) → Stands (k ∷ ks) → (o : Option View) → slice_get vs k ≡ o → Ordered (picked vs ks) → Ordered (with_one o (picked vs ks))
   ordered_with k ks h None e r = r
-  ordered_with k ks h (Some p) e r = (record {
-    reads = λ b out.
-        ap (λ c. c || driven (picked vs ks) b) (h.reads 0 0 k k p p (omega arith) refl refl e e b out) ∙
-        none_driven (picked vs ks) b (each_picked vs (λ w. has_bit w.drives b ≡ false) ks (λ i m q a g. h.reads 0 (suc i) k m p q (omega arith) refl a e g b out));
-    drives = λ b own.
-        none_driven (picked vs ks) b (each_picked vs (λ w. has_bit w.drives b ≡ false) ks (λ i m q a g. h.drives 0 (suc i) k m p q (omega arith) refl a e g b own));
-  }, r)
+  ordered_with k ks h (Some p) e r = (
+    record {
+      reads = λ b out.
+          ap (λ c. c || driven (picked vs ks) b) (h.reads 0 0 k k p p (omega arith) refl refl e e b out) ∙
+          none_driven (picked vs ks) b (each_picked vs (λ w. has_bit w.drives b ≡ false) ks (λ i m q a g. h.reads 0 (suc i) k m p q (omega arith) refl a e g b out));
+      drives = λ b own.
+          none_driven (picked vs ks) b (each_picked vs (λ w. has_bit w.drives b ≡ false) ks (λ i m q a g. h.drives 0 (suc i) k m p q (omega arith) refl a e g b own));
+    },
+    r,
+  )
 
   ordered : (ks : List ℕ) → Stands ks → Ordered (picked vs ks)
   ordered [] h = tt

@@ -1,18 +1,17 @@
 -- Cells of distinct names are those of signals that are apart.
-use Rattle.std.proofs.Common.{◌≡◌, inl, inr, ℕ, zero, suc, ◌+◌, ◌<◌, Bool, true, false, ◌||◌, List, [], ◌∷◌, ◌++◌, length, map, refl, sym, ap, ◌∙◌, arith, subst, Some}
-use Rattle.std.specs.Prelude.{flat_map, filter, cond, slice_get, bytes_eq, if◌then◌else◌}
+use Rattle.std.proofs.Common.{◌≡◌, inl, inr, ℕ, suc, ◌<◌, Bool, true, false, List, [], ◌∷◌, ◌++◌, length, map, refl, sym, ap, ◌∙◌, arith}
+use Rattle.std.specs.Prelude.{filter, cond, bytes_eq, if◌then◌else◌}
 use Rattle.std.specs.List.{list_any}
 use Rattle.lv_ast.specs.Names.{Name}
 use Rattle.lv_source.specs.Names.{Declared, width_of, is_signal_sort}
-use Rattle.lv_source.specs.Places.{cells, whole, has_bit, Bit}
+use Rattle.lv_source.specs.Places.{cells}
 use Rattle.lv_source.specs.Parts.{is_signal, width_from}
-use Rattle.lv_source.proofs.Tests.{or-split, any-right, any-map, same_name, decide, or-left, or-right}
+use Rattle.lv_source.proofs.Tests.{or-split, any-right, any-map, same_name, or-left, or-right}
 use Rattle.lv_source.proofs.Refused.{In}
 use Rattle.lv_source.proofs.Kids.{in_index}
 use Rattle.lv_flat.specs.Cells.{Cell, cell_of, cells_of, all_cells, cell_at, AreDistinct}
 use Rattle.lv_flat.specs.Signals.{Signals}
 use Rattle.lv_settles.specs.Rules.{AreApart, signals_in}
-use Rattle.lv_settles.proofs.Lists.{cells_named}
 
 abbrev pub named_by : Name → List Cell → Bool
 named_by name cs = list_any (λ (c : Cell). bytes_eq name c.name) cs

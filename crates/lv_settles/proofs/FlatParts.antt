@@ -1,30 +1,28 @@
 -- A flat part does to the bits of a valuation what a part of the source does.
-use Rattle.std.proofs.Common.{◌≡◌, inl, inr, ℕ, zero, suc, ◌+◌, ◌<◌, Bool, true, false, ◌&&◌, ◌||◌, not, List, [], ◌∷◌, length, map, refl, sym, ap, ◌∙◌, arith, subst, Option, Some, None}
+use Rattle.std.proofs.Common.{◌≡◌, inl, inr, ℕ, zero, suc, ◌+◌, ◌<◌, Bool, true, false, ◌&&◌, not, List, [], ◌∷◌, map, refl, sym, ap, ◌∙◌, arith, subst, Some}
 use Rattle.std.specs.Prelude.{flat_map, filter, cond, slice_get, slice_index_or, bytes_eq}
 use Rattle.std.specs.List.{list_any, list_all, range_with_len}
-use Rattle.lv_ast.specs.Names.{Name, alone}
-use Rattle.lv_ast.specs.declared.expr.Path.{Path}
+use Rattle.lv_ast.specs.Names.{Name}
 use Rattle.lv_ast.specs.declared.stmt.Ident.{Ident}
 use Rattle.lv_ast.specs.declared.stmt.Stmt.{Stmt}
-use Rattle.lv_source.specs.Names.{Names, Declared, Valuation, known, is_signal_sort, width_of, no_declaration}
-use Rattle.lv_source.specs.Places.{Bit, bit_at, has_bit, same_bit, whole, cells, bits_below}
-use Rattle.lv_source.specs.Meaning.{Reading, read_expr, all_constant}
+use Rattle.lv_source.specs.Names.{Names, Declared, known, is_signal_sort, width_of, no_declaration}
+use Rattle.lv_source.specs.Places.{Bit, has_bit, same_bit, cells, bits_below}
+use Rattle.lv_source.specs.Meaning.{Reading, read_expr}
 use Rattle.lv_source.specs.Effect as source
 use Rattle.lv_source.specs.Effect.{Piece}
 use Rattle.lv_source.specs.Flow.{Event}
 use Rattle.lv_source.specs.Flow as flows
 use Rattle.lv_source.specs.Parts.{At, Body, Part, Assign, Comb, Clocked, drives, is_signal, width_from}
 use Rattle.lv_source.specs.PartRules as r
-use Rattle.lv_source.specs.Summary.{summary, leaves_latch, exposes_own}
-use Rattle.lv_source.specs.Views.{View, Seen, Aim, Way, view_of, aim_of, seen_of, at_view, seen_places, aimed_at, at_views, is_edge, is_continuous, is_combinational}
+use Rattle.lv_source.specs.Summary.{leaves_latch, exposes_own}
+use Rattle.lv_source.specs.Views.{View, Seen, Aim, view_of, aim_of, seen_of, seen_places, aimed_at, is_continuous, is_combinational}
 use Rattle.lv_source.proofs.Tests.{or-split, any-split, any-map, same_bits}
-use Rattle.lv_source.proofs.Each.{Each}
 use Rattle.lv_source.proofs.Refused.{In}
 use Rattle.lv_source.proofs.CaseTrees.{all-map}
 use Rattle.lv_source.proofs.Summaries.{latch_is, read_first_is}
 use Rattle.lv_source.proofs.Settles.{block_settles}
 use Rattle.lv_source.proofs.Frame.{put_kept, block_kept}
-use Rattle.lv_source.proofs.Unique.{outside, body_settles}
+use Rattle.lv_source.proofs.Unique.{body_settles}
 use Rattle.lv_source.proofs.Provenance.{FaithfulBody}
 use Rattle.lv_source.proofs.Pieces.{pieces_faithful}
 use Rattle.lv_source.proofs.Readings.{faithful}
@@ -35,12 +33,10 @@ use Rattle.lv_flat.specs.declared.part.FlatBody.TheVariants as b
 use Rattle.lv_flat.specs.declared.part.FlatPart.{FlatPart}
 use Rattle.lv_flat.specs.Cells.{all_cells, AreDistinct}
 use Rattle.lv_flat.specs.Signals.{Signals, signal_at}
-use Rattle.lv_flat.specs.Judged.{judge}
-use Rattle.lv_flat.specs.Executing.{pieces}
 use Rattle.lv_flat.specs.FlatViews.{flat_view, flat_views}
 use Rattle.lv_flat.proofs.Bridge.{assign_alike, combinational_alike, clocked_alike}
-use Rattle.lv_settles.specs.Lawful.{IsLawful, AreLawful, AgreeOutside}
-use Rattle.lv_settles.specs.Rules.{AreRight, AreApart, signals_in}
+use Rattle.lv_settles.specs.Lawful.{IsLawful, AreLawful}
+use Rattle.lv_settles.specs.Rules.{AreRight, signals_in}
 use Rattle.lv_settles.proofs.Lists.{told_none, filtered_none, cells_named}
 use Rattle.lv_settles.proofs.Cells.{same_signal, width_is}
 use Rattle.lv_settles.proofs.FlatTrees.{numbered, has_tree}

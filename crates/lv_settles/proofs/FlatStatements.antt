@@ -1,7 +1,6 @@
 -- A flat statement does what a statement of the source does whose names are numbers.
-use Rattle.std.proofs.Common.{◌≡◌, ℕ, Bool, true, false, List, [], ◌∷◌, ◌++◌, map, refl, sym, ap, ◌∙◌, Option, Some, None}
+use Rattle.std.proofs.Common.{◌≡◌, ℕ, Bool, true, false, List, [], ◌∷◌, ◌++◌, map, refl, sym, ap, ◌∙◌, Some, None}
 use Rattle.std.specs.Prelude.{flat_map}
-use mathlib.Core.Path.{fun_ext}
 use Rattle.lv_ast.specs.declared.expr.Expr.{Expr}
 use Rattle.lv_ast.specs.declared.expr.Select.{Select}
 use Rattle.lv_ast.specs.declared.stmt.Target.{Target}
@@ -15,9 +14,8 @@ use Rattle.lv_source.specs.Meaning.{Reading, read_expr, read_select}
 use Rattle.lv_source.specs.Effect.{State, Label, Arm, Piece, one_by_one, if_of, case_of, now_of, later_of}
 use Rattle.lv_source.specs.Effect as source
 use Rattle.lv_source.specs.Flow.{Flow, still, then_flow, all_flows, if_flow, case_flow_of, write_flow}
-use Rattle.lv_source.specs.Flow as sourceflow
 use Rattle.lv_source.specs.Summary.{Summary, nothing_done, then_summary, all_summaries, if_summary, case_summary_of, write_summary}
-use Rattle.lv_source.specs.Views.{Seen, seen_of}
+use Rattle.lv_source.specs.Views.{seen_of}
 use Rattle.lv_source.proofs.Bridges.{two, map-map, map-join}
 use Rattle.lv_source.proofs.Each.{Each}
 use Rattle.lv_flat.specs.declared.expr.FlatExpr.{FlatExpr}
@@ -25,18 +23,18 @@ use Rattle.lv_flat.specs.declared.expr.FlatSelect.{FlatSelect}
 use Rattle.lv_flat.specs.declared.stmt.FlatName.{FlatName}
 use Rattle.lv_flat.specs.declared.stmt.FlatTarget.{FlatTarget, Row_of-FlatTarget, end_of-FlatTarget, more_of-FlatTarget}
 use Rattle.lv_flat.specs.declared.stmt.FlatTarget.TheVariants as t
-use Rattle.lv_flat.specs.declared.stmt.FlatStmt.{FlatStmt, Row_of-FlatStmt, end_of-FlatStmt, more_of-FlatStmt, Row_of-FlatArm, end_of-FlatArm, more_of-FlatArm, Held-FlatStmt-If-2, None', Some'}
+use Rattle.lv_flat.specs.declared.stmt.FlatStmt.{FlatStmt, Row_of-FlatStmt, end_of-FlatStmt, more_of-FlatStmt, Row_of-FlatArm, end_of-FlatArm, more_of-FlatArm, None', Some'}
 use Rattle.lv_flat.specs.declared.stmt.FlatStmt.TheVariants as b
-use Rattle.lv_flat.specs.Trees.{fold_target, fold_targets, fold_stmt, fold_stmts, fold_one_stmt, fold_held, fold_arms}
+use Rattle.lv_flat.specs.Trees.{fold_target, fold_targets, fold_stmt, fold_stmts, fold_one_stmt, fold_arms}
 use Rattle.lv_flat.specs.Signals.{Signals, signal_at}
-use Rattle.lv_flat.specs.Judged.{judge, judge_select, reading, choices}
-use Rattle.lv_flat.specs.Executing.{Effect, piece_step, pieces, label_of, arm_step, otherwise, effect_step, executes}
-use Rattle.lv_flat.specs.Flows.{flow_or, flow_step, flow, summary_or, summary_step, summary}
+use Rattle.lv_flat.specs.Judged.{judge, judge_select, reading}
+use Rattle.lv_flat.specs.Executing.{Effect, piece_step, pieces, label_of, arm_step, effect_step, executes}
+use Rattle.lv_flat.specs.Flows.{flow_step, flow, summary_step, summary}
 use Rattle.lv_flat.proofs.Doings.{Done, done_by, three, Goal, goal_of, goal_one, goal_all, join_goals, done_null, done_all, done_if, done_case, done_now, done_later, if_by, case_by, now_by, later_by, arm_with}
 use Rattle.lv_flat.proofs.FlatDoings.{flat_done}
 use Rattle.lv_flat.proofs.SourceDoings.{source_done, source-Null, source-Block, source-If, source-If_else, source-Case, source-Now, source-Later, arm_labels_of}
 use Rattle.lv_flat.proofs.Targets.{piece_of}
-use Rattle.lv_settles.proofs.FlatTrees.{numbered, path_of, HasTree, HasSelect, selects_of, has_tree, have_selects}
+use Rattle.lv_settles.proofs.FlatTrees.{numbered, path_of, selects_of, has_tree, have_selects}
 
 module _ (S : Signals) where
   abbrev names : Names

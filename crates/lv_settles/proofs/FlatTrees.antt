@@ -2,26 +2,26 @@
 use Rattle.std.proofs.Common.{◌≡◌, ℕ, zero, suc, ◌%◌, ◌^◌, ◌<◌, Bool, true, false, not, ◌==◌, List, [], ◌∷◌, map, refl, sym, ap, ◌∙◌, arith, pow-suc, subst, ◌&&◌, ◌*◌, ◌++◌, Option, Some, None}
 use Rattle.std.specs.Prelude.{flat_map}
 use Rattle.std.proofs.Math.Nat.{mod-eq_of_lt}
-use Rattle.std.specs.List.{AllZip, list_all}
-use Rattle.lv_bits.specs.Values.{keeps_width, extended}
+use Rattle.std.specs.List.{list_all}
+use Rattle.lv_bits.specs.Values.{keeps_width}
 use Rattle.lv_ast.specs.Names.{Name}
 use Rattle.lv_ast.specs.declared.expr.Literal.{Literal}
 use Rattle.lv_ast.specs.declared.expr.Path.{Path}
 use Rattle.lv_ast.specs.declared.expr.Expr.{Expr, roll-Expr, map-Expr}
-use Rattle.lv_ast.specs.declared.expr.Expr.TheBlock.{shape-the_row-Select-0, hidden-the_row-Select-0, shown-the_row-Select-0, shape-the_row-Expr-1, hidden-the_row-Expr-1, hidden-the_row-Expr-2}
+use Rattle.lv_ast.specs.declared.expr.Expr.TheBlock.{shape-the_row-Select-0, hidden-the_row-Select-0, shown-the_row-Select-0, shape-the_row-Expr-1, hidden-the_row-Expr-1}
 use Rattle.lv_ast.specs.declared.expr.Expr.TheOpen.{Expr-F, Select-F}
 use Rattle.lv_ast.specs.declared.expr.Select.{Select}
 use Rattle.lv_ast.specs.declared.expr.Select.TheVariants as s
 use Rattle.lv_ast.proofs.ExprFolds as tree
 use Rattle.lv_source.specs.Names.{Names, Declared, Constant, known}
-use Rattle.lv_source.specs.Values.{own_value, nowhere, size_of, plain, widths, repeated, joined}
+use Rattle.lv_source.specs.Values.{own_value, nowhere, plain, widths, repeated, joined}
 use Rattle.lv_source.specs.Places.{Bit}
 use Rattle.lv_source.specs.Meaning.{Reading, Choice, read_step, choice, read_expr, read_select, named, meanings}
 use Rattle.lv_source.specs.Effect.{literal_of}
 use Rattle.lv_source.specs.Flow.{is_extended}
 use Rattle.lv_source.proofs.Each.{Each}
 use Rattle.lv_source.proofs.Fits.{at_own}
-use Rattle.lv_source.proofs.Bridges.{two, map-map}
+use Rattle.lv_source.proofs.Bridges.{two}
 use Rattle.lv_const.specs.declared.constant.Const.{Const}
 use Rattle.lv_const.specs.Constants.{constant_of}
 use Rattle.lv_flat.specs.declared.expr.FlatExpr.{FlatExpr, Row_of-FlatExpr, end_of-FlatExpr, more_of-FlatExpr, Row_of-FlatSelect, end_of-FlatSelect, more_of-FlatSelect}
@@ -32,7 +32,7 @@ use Rattle.lv_flat.specs.declared.expr.FlatSelect.TheVariants as fs
 use Rattle.lv_flat.specs.Trees.{fold_expr, fold_exprs, fold_one, fold_select, fold_selects}
 use Rattle.lv_flat.specs.Signals.{Signals, signal_at}
 use Rattle.lv_flat.specs.Judged.{Judged, JudgedSelect, judge, judge_select, judge_step, judge_choice, layer_reading, layer_literal, layer_extends, number, choices, readings}
-use Rattle.lv_flat.proofs.Selects.{Same, Alike, AllAlike, named_same}
+use Rattle.lv_flat.proofs.Selects.{Alike, AllAlike, named_same}
 use Rattle.lv_flat.proofs.ReadAlike.{IsNumber, same-number}
 
 -- ---- names that are numbers

@@ -1,10 +1,9 @@
 -- Each bit ends as the one part with a clock that drives it leaves it.
-use Rattle.std.proofs.Common.{◌≡◌, inl, inr, ℕ, zero, suc, Bool, true, false, ◌&&◌, List, [], ◌∷◌, map, refl, sym, ap, ◌∙◌, arith, Option, Some, None}
+use Rattle.std.proofs.Common.{◌≡◌, ℕ, zero, suc, Bool, true, false, ◌&&◌, List, [], ◌∷◌, refl, ap, ◌∙◌, arith, Option, Some, None}
 use Rattle.std.specs.Prelude.{slice_get, find, cond, if◌then◌else◌}
 use Rattle.lv_source.specs.Names.{Declared, Valuation}
 use Rattle.lv_source.specs.Places.{Bit, bit_at, has_bit}
 use Rattle.lv_source.specs.Views.{View, is_edge, left_view_bit, next_view_bit}
-use Rattle.lv_source.proofs.Tests.{decide, and-both}
 use Rattle.lv_settles.specs.Clocked.{IsOverlay, Overlay, AreOverlays, views_in, overlaid}
 use Rattle.lv_settles.specs.Rules.{AreRight}
 use Rattle.lv_settles.proofs.Carried.{OneDriver}

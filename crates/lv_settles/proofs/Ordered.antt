@@ -1,12 +1,12 @@
 -- What parts leave that are carried out one after another, none reading what a later one drives.
-use Rattle.std.proofs.Common.{◌≡◌, ◌⊎◌, inl, inr, ℕ, ◌/◌, ◌%◌, ◌^◌, Bool, true, false, ◌||◌, List, [], ◌∷◌, refl, sym, ap, ◌∙◌}
+use Rattle.std.proofs.Common.{◌≡◌, inl, inr, ◌/◌, ◌%◌, ◌^◌, Bool, true, false, ◌||◌, List, [], ◌∷◌, refl, sym, ap, ◌∙◌}
 use Rattle.std.proofs.lemmas.Nat.Bits.{same_from_bits}
 use Rattle.std.specs.List.{list_any}
 use Rattle.lv_ast.specs.Names.{Name}
 use Rattle.lv_source.specs.Names.{Declared, Valuation}
 use Rattle.lv_source.specs.Places.{Bit, bit_at, has_bit}
 use Rattle.lv_source.specs.Views.{View, is_edge}
-use Rattle.lv_source.proofs.Tests.{decide, or-none_left, or-none_right, or-left, or-right}
+use Rattle.lv_source.proofs.Tests.{decide, or-none_left, or-none_right}
 use Rattle.lv_source.proofs.Each.{Each}
 use Rattle.lv_settles.specs.Lawful.{is_outside, IsLawful}
 

@@ -1,6 +1,6 @@
 -- What the rules say of each part.
-use Rattle.std.proofs.Common.{◌≡◌, ◌⊎◌, inl, inr, ℕ, ◌+◌, ◌<◌, ◌≤◌, Bool, true, false, ◌&&◌, ◌||◌, not, List, [], ◌∷◌, map, refl, sym, ap, ◌∙◌, arith, Some}
-use Rattle.std.specs.Prelude.{flat_map, filter, slice_get, bytes_eq}
+use Rattle.std.proofs.Common.{◌≡◌, ◌⊎◌, inl, inr, ℕ, ◌+◌, true, false, ◌&&◌, not, List, [], ◌∷◌, refl, sym, ap, ◌∙◌, arith, Some}
+use Rattle.std.specs.Prelude.{filter, slice_get}
 use Rattle.std.specs.List.{list_any}
 use Rattle.lv_source.specs.Names.{Declared, is_variable_sort, is_input_sort, Sort, Input, Net, Variable, Clock, Constant, Index, Other}
 use Rattle.lv_source.specs.Places.{Bit, has_bit, whole}

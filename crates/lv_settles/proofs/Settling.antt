@@ -1,5 +1,5 @@
 -- What the parts leave in an order is settled, and the one such valuation.
-use Rattle.std.proofs.Common.{◌≡◌, ◌⊎◌, inl, inr, ℕ, suc, ◌/◌, ◌%◌, ◌^◌, ◌<◌, ◌≤◌, Bool, true, false, ◌&&◌, not, List, [], ◌∷◌, refl, sym, ap, ◌∙◌, arith, subst, Some, None}
+use Rattle.std.proofs.Common.{◌≡◌, ◌⊎◌, inl, inr, ℕ, suc, ◌/◌, ◌%◌, ◌^◌, ◌<◌, ◌≤◌, true, false, ◌&&◌, not, List, [], ◌∷◌, sym, ap, ◌∙◌, arith, subst, Some, None}
 use Rattle.std.specs.Prelude.{flat_map, filter, slice_get, bytes_eq, All}
 use Rattle.std.specs.List.{list_any}
 use Rattle.std.proofs.lemmas.Bool.{cases_lt}
@@ -10,7 +10,7 @@ use Rattle.lv_source.specs.Names.{Declared, Valuation, width_of, is_input_sort}
 use Rattle.lv_source.specs.Places.{Bit, bit_at, has_bit, whole, cells}
 use Rattle.lv_source.specs.Parts.{width_from}
 use Rattle.lv_source.specs.Views.{View, is_edge, view_driven, view_read, is_register_view, is_wired_view, IsViewSettled, idle_view_bits}
-use Rattle.lv_source.proofs.Tests.{decide, and-left, and-right, and-both, or-none_left, not-true, or-left, or-right, name-itself}
+use Rattle.lv_source.proofs.Tests.{decide, and-left, and-right, and-both, not-true, or-left, or-right, name-itself}
 use Rattle.lv_source.proofs.Each.{Each}
 use Rattle.lv_source.proofs.Facts.{all_at, all_bits, all_names, cells_any, whole_any, at_any}
 use Rattle.lv_source.proofs.Within.{cells_have}
@@ -18,8 +18,8 @@ use Rattle.lv_source.proofs.Unique.{clash}
 use Rattle.lv_settles.specs.Lawful.{AreLawful}
 use Rattle.lv_settles.specs.Orders.{IsOrder, carried}
 use Rattle.lv_settles.specs.Rules.{AreRight, AreApart, IsStart, SameStart, register_names, input_names}
-use Rattle.lv_settles.proofs.Ordered.{driven, run, Plain, Ordered, run_keeps, run_settles, run_meets}
-use Rattle.lv_settles.proofs.Carried.{picked, picked_at, each_picked, carried_run, order_stands, plain_parts, free_bit, taken_bit, OneDriver}
+use Rattle.lv_settles.proofs.Ordered.{run, Plain, Ordered, run_keeps, run_settles, run_meets}
+use Rattle.lv_settles.proofs.Carried.{picked, picked_at, each_picked, carried_run, order_stands, plain_parts, free_bit, taken_bit}
 use Rattle.lv_settles.proofs.Lists.{below_power, cell_of, all_bits_by, all_by, whole_of, cells_named, signal_of}
 use Rattle.lv_settles.proofs.Rightness.{one_driver, not_driven, idle}
 use Rattle.lv_settles.proofs.Cells.{width_is}

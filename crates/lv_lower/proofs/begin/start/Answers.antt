@@ -1,7 +1,7 @@
 use Rattle.std.proofs.Common.{sym, subst, take, ◌∙◌}
 use Rattle.lv_netlist.specs.Net.{Net, IsNew, no_nodes}
 use Rattle.lv_lower.specs.declared.slot.Slot.{Slot}
-use Rattle.lv_lower.specs.Started.{net_from, slot_at}
+use Rattle.lv_lower.specs.Started.{net_from}
 use Rattle.lv_lower.proofs.Starting.{new-name, start-more, slot-item}
 use Rattle.lv_lower.proofs.begin.start.Goals as goal
 

@@ -1,5 +1,5 @@
-use Rattle.std.proofs.Common.{◌≡◌, ◌+◌, ◌*◌, ◌≤◌, ◌∙◌, ap, sym, arith, take}
-use Rattle.lv_lower.specs.Nexts.{bits_by, register_bits}
+use Rattle.std.proofs.Common.{◌+◌, ◌*◌, ◌≤◌, ◌∙◌, ap, sym, arith, take}
+use Rattle.lv_lower.specs.Nexts.{register_bits}
 use Rattle.lv_lower.proofs.Nexting.{bits-more}
 use Rattle.lv_lower.proofs.nexts.register_bits.Goals as goal
 

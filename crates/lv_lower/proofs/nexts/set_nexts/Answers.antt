@@ -1,11 +1,11 @@
-use Rattle.std.proofs.Common.{◌≡◌, ◌∙◌, ℕ, ◌+◌, ◌<◌, List, Bool, true, false, length, take, inl, inr, ap, sym, subst, Option, Some}
-use Rattle.std.specs.Prelude.{is_some, IfSome, slice_index, slice_index_or}
+use Rattle.std.proofs.Common.{◌≡◌, ◌∙◌, ℕ, ◌<◌, List, true, length, take, inl, inr, ap, sym, subst, Option, Some}
+use Rattle.std.specs.Prelude.{is_some, IfSome, slice_index}
 use Rattle.lv_source.proofs.Tests.{decide}
 use Rattle.lv_netlist.specs.declared.node.Typed.{Typed}
 use Rattle.lv_netlist.specs.Net.{Net, node_at, width_at, register_of, with_next}
 use Rattle.lv_lower.specs.declared.slot.Slot.{Slot}
 use Rattle.lv_lower.specs.Started.{slot_at}
-use Rattle.lv_lower.specs.Nexts.{is_held, with_nexts}
+use Rattle.lv_lower.specs.Nexts.{is_held}
 use Rattle.lv_lower.proofs.Starting.{registers_in, slot-item}
 use Rattle.lv_lower.proofs.Nexting.{nexts-none, nexts-more, nexts-skip, here, register-here, registers-some, width-here, cell-count, cell-width}
 use Rattle.lv_lower.proofs.nexts.set_nexts.Goals as goal

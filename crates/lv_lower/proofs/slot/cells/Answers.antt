@@ -1,6 +1,4 @@
-use Rattle.std.proofs.Common.{◌≡◌, ◌∙◌, ap, sym, true, ◌++◌}
-use Rattle.lv_source.specs.Names.{is_signal_sort}
-use Rattle.lv_flat.specs.Signals.{declared}
+use Rattle.std.proofs.Common.{◌∙◌, ap, sym, ◌++◌}
 use Rattle.lv_lower.proofs.Slotting.{cells-array}
 use Rattle.lv_lower.proofs.slot.cells.Goals as goal
 

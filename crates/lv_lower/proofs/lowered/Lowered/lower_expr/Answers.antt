@@ -1,4 +1,4 @@
-use Rattle.std.proofs.Common.{◌≡◌, ◌≤◌, ◌∙◌, ℕ, List, arith, ap, sym, subst}
+use Rattle.std.proofs.Common.{◌≡◌, ◌≤◌, ◌∙◌, List, arith, ap, sym, subst}
 use Rattle.lv_netlist.specs.Net.{Net}
 use Rattle.lv_flat.specs.declared.signal.Signal.{Signal}
 use Rattle.lv_flat.specs.Signals.{declared_all}

@@ -7,3 +7,6 @@ mod Slotting
 mod Asking
 mod Beginning
 mod Concluding
+mod Cycles
+mod GraphMoves
+mod Through

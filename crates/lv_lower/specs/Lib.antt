@@ -3,3 +3,4 @@ pub mod Started
 pub mod Lowered
 pub mod Asked
 pub mod Nexts
+pub mod Machines

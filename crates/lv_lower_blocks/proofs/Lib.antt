@@ -1,0 +1,14 @@
+pub mod Aiming
+pub mod Arming
+pub mod Bodying
+pub mod Casing
+pub mod GoodTargets
+pub mod Keeping
+pub mod Leaving
+pub mod Merging
+pub mod Picking
+pub mod Putting
+pub mod Rewriting
+pub mod Runnings
+pub mod Spans
+pub mod Storing

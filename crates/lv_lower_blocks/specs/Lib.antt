@@ -1,0 +1,4 @@
+pub mod Aimed
+pub mod Cased
+pub mod Rewritten
+pub mod Running

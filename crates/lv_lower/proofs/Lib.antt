@@ -10,3 +10,4 @@ mod Concluding
 mod Cycles
 mod GraphMoves
 mod Through
+mod Carrying

@@ -4,3 +4,4 @@ pub mod Lowered
 pub mod Asked
 pub mod Nexts
 pub mod Machines
+pub mod Carrying

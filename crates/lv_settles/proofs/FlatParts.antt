@@ -44,13 +44,13 @@ use Rattle.lv_settles.proofs.FlatStatements.{has_target, has_stmt}
 
 -- ---- what the rules say of one view
 
-record IsClear (w : View) : Type 0 where
-  latch : (is_combinational w.way && leaves_latch w.paths) ≡ false
-  first : (is_combinational w.way && exposes_own w.paths) ≡ false
-  once : list_any (λ (e : Seen). is_combinational w.way && not e.at_once) w.events ≡ false
-  fixed : (is_continuous w.way && not (list_all (λ (a : Aim). a.sure) w.targets)) ≡ false
+pub record IsClear (w : View) : Type 0 where
+  pub latch : (is_combinational w.way && leaves_latch w.paths) ≡ false
+  pub first : (is_combinational w.way && exposes_own w.paths) ≡ false
+  pub once : list_any (λ (e : Seen). is_combinational w.way && not e.at_once) w.events ≡ false
+  pub fixed : (is_continuous w.way && not (list_all (λ (a : Aim). a.sure) w.targets)) ≡ false
 
-clear_at : (ds : List Declared) (vs : List View) → AreRight ds vs → (k : ℕ) (w : View) → slice_get vs k ≡ Some w → IsClear w
+pub clear_at : (ds : List Declared) (vs : List View) → AreRight ds vs → (k : ℕ) (w : View) → slice_get vs k ≡ Some w → IsClear w
 clear_at ds vs right k w e = record {
   latch = told_none _ w.at [] (numbered_at (λ kv. r.told_if (is_combinational kv.1.way && leaves_latch kv.1.paths) (kv.1.at ∷ [])) vs 0 right.latch k w e);
   first = told_none _ w.at [] (numbered_at (λ kv. r.told_if (is_combinational kv.1.way && exposes_own kv.1.paths) (kv.1.at ∷ [])) vs 0 right.first k w e);

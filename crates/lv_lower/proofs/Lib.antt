@@ -1,0 +1,13 @@
+mod Standing
+mod Starting
+mod Valuations
+mod Finishing
+mod Nexting
+mod Slotting
+mod Asking
+mod Beginning
+mod Concluding
+mod Cycles
+mod GraphMoves
+mod Through
+mod Carrying

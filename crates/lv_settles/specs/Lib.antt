@@ -1,0 +1,4 @@
+pub mod Lawful
+pub mod Orders
+pub mod Rules
+pub mod Clocked

@@ -75,6 +75,7 @@ pub record IsShort (task : Task) (budget : ℕ) (q : Query) (spent : Spent) : Ty
   pub above : HasAllInductive task list
   pub spent_is : IsSpentFor task list q budget spent.set spent.log
 
+-- what is answered of a task, with its cause
 abbrev pub IsLearnt : Task → ℕ → Learnt → Type 0
 IsLearnt task budget (l.Accepted cert sets) = IsAccepted task budget cert sets
 IsLearnt task budget (l.Unproved kept pair) = IsUnproved task kept.numbers.items pair

@@ -90,6 +90,7 @@ pub record IsShortOf (task : Task) (budget : ℕ) (cert : Cert) (q : Query) (k :
   pub spent_is : IsSpentFor task cert.kept.items q budget spent.set spent.log
   pub cause : IsCause task cert q k spent
 
+-- what is answered of a certificate, with its cause
 abbrev pub IsConfirmed : Task → ℕ → Cert → Confirmed → Type 0
 IsConfirmed task budget cert v.Yes = IsYes task cert.kept.items
 IsConfirmed task budget cert (v.No q pair) = IsNo task cert.kept.items q pair

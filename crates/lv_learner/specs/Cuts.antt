@@ -29,6 +29,7 @@ state_of task values = cut (register_widths task.graph) values
 abbrev pub input_of : Task → List ℕ → List Bits
 input_of task values = cut (port_widths task.graph) values
 
+-- a state and an input
 abbrev pub cycle : List Bits → List Bits → GraphCycle
 cycle state input = record { state = state; input = input }
 

@@ -11,7 +11,7 @@ use Rattle.lv_ast.specs.declared.expr.Select.{Select}
 use Rattle.lv_ast.specs.declared.expr.Select.TheVariants as s
 use Rattle.lv_ast.specs.Trees.{fold_expr, fold_exprs, fold_one, fold_select, fold_selects}
 use Rattle.lv_source.specs.Names.{Names, Here}
-use Rattle.lv_source.specs.Sites.{Site, Role, Value, Joined, Walk, WalkStep, walk_step, walk_select_step, walk, own_sites, fixed_sites, index_sites, step_sites, below_sites, is_driven, joined_role, first_place}
+use Rattle.lv_source.specs.Sites.{Site, Role, Value, Joined, Walk, WalkStep, walk_step, walk_select_step, walk_select, own_sites, fixed_sites, index_sites, step_sites, below_sites, is_driven, joined_role, first_place}
 use Rattle.lv_source.specs.NodeRules.{unknown_name, zero_divisor, out_of_range}
 use Rattle.lv_const.proofs.Owns.{site_of}
 use Rattle.lv_resolve.specs.declared.error.ResolveError.{ResolveError}
@@ -116,6 +116,9 @@ module _ (here : Here) where
   part : (a b : Walk) → StepLoose (Select-F.Part a b)
   part a b = record { at = λ constant first. same (fixed_sites a ++ fixed_sites b) }
 
+  indexed : (a b : Walk) → AllLoose a → Looser (index_sites false None a ++ fixed_sites b) (index_sites true None a ++ fixed_sites b)
+  indexed a b h = both (index_sites false None a) (fixed_sites b) (index_sites true None a) (fixed_sites b) (own a h Value (first_place a.shown)) (same (fixed_sites b))
+
   mutual
     fold-loose : (z : Expr) → AllLoose (fold_expr Walk WalkStep (walk_step names) walk_select_step z)
     fold-loose (e.Lit l) = node (Expr-F.Lit l) (λ role first W T. same [])
@@ -164,16 +167,29 @@ module _ (here : Here) where
     fold-steps end_of-Select constant first = same []
     fold-steps (more_of-Select z zs) constant first = both _ _ _ _ ((fold-step z).at constant first) (fold-steps zs constant first)
 
-  loosened : (z : Expr) → AllLoose (walk names z)
-  unfolding walk
-  loosened z = fold-loose z
+  -- indices that have to be constant, and those that don't
+  mutual-steps : (z : Select) → Looser (step_sites false None (walk_select names z)) (step_sites true None (walk_select names z))
+  unfolding walk_select
+  mutual-steps (s.Bit' n a) = own (fold_one Walk WalkStep (walk_step names) walk_select_step a) (fold-one a) Value
+      (first_place (fold_one Walk WalkStep (walk_step names) walk_select_step a).shown)
+  mutual-steps (s.Part' n a m b) = same (fixed_sites (fold_one Walk WalkStep (walk_step names) walk_select_step a) ++
+      fixed_sites (fold_one Walk WalkStep (walk_step names) walk_select_step b))
+  mutual-steps (s.Up' n a m b) = indexed (fold_one Walk WalkStep (walk_step names) walk_select_step a) (fold_one Walk WalkStep (walk_step names) walk_select_step b) (fold-one a)
+  mutual-steps (s.Down' n a m b) = indexed (fold_one Walk WalkStep (walk_step names) walk_select_step a) (fold_one Walk WalkStep (walk_step names) walk_select_step b) (fold-one a)
 
-  tells-fixed : (z : Expr) (y : ResolveError) → Tells here (own_sites Value None (walk names z)) y → Tells here (fixed_sites (walk names z)) y
-  tells-fixed z (x.UnknownName p) h = (own (walk names z) (loosened z) Value (first_place (walk names z).shown)).more (x.UnknownName p) p h
-  tells-fixed z (x.NotConstant p) h = (own (walk names z) (loosened z) Value (first_place (walk names z).shown)).more (x.NotConstant p) p h
-  tells-fixed z (x.ZeroDivisor p) h = (own (walk names z) (loosened z) Value (first_place (walk names z).shown)).more (x.ZeroDivisor p) p h
-  tells-fixed z (x.Range p) h = (own (walk names z) (loosened z) Value (first_place (walk names z).shown)).more (x.Range p) p h
-  tells-fixed z x.NoMemory h = h
+  all-steps : (ss : List Select) → Looser (flat_map (step_sites false None) (map (walk_select names) ss)) (flat_map (step_sites true None) (map (walk_select names) ss))
+  all-steps [] = same []
+  all-steps (z ∷ ss) = both (step_sites false None (walk_select names z)) (flat_map (step_sites false None) (map (walk_select names) ss))
+      (step_sites true None (walk_select names z)) (flat_map (step_sites true None) (map (walk_select names) ss)) (mutual-steps z) (all-steps ss)
 
-  pub told-fixed : (z : Expr) (y : ResolveError) → Told here (own_sites Value None (walk names z)) y → Told here (fixed_sites (walk names z)) y
-  told-fixed z y h = record { found = tells-fixed z y h.found }
+  tells-steps : (ss ts : List Site) (y : ResolveError) → Looser ss ts → Tells here ss y → Tells here ts y
+  tells-steps ss ts (x.UnknownName p) h k = h.more (x.UnknownName p) p k
+  tells-steps ss ts (x.NotConstant p) h k = h.more (x.NotConstant p) p k
+  tells-steps ss ts (x.ZeroDivisor p) h k = h.more (x.ZeroDivisor p) p k
+  tells-steps ss ts (x.Range p) h k = h.more (x.Range p) p k
+  tells-steps ss ts x.NoMemory h k = k
+
+  pub told-steps : (driven : Bool) (ss : List Select) (y : ResolveError) → Told here (flat_map (step_sites false None) (map (walk_select names) ss)) y →
+      Told here (flat_map (step_sites driven None) (map (walk_select names) ss)) y
+  told-steps true ss y h = record { found = tells-steps _ _ y (all-steps ss) h.found }
+  told-steps false ss y h = h

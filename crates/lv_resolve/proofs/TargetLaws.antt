@@ -21,8 +21,8 @@ use Rattle.lv_source.specs.Values.{Chosen, nowhere}
 use Rattle.lv_source.specs.Places.{Place, place_of, place_by, element, nowhere_place, bits_of, bit_selects, all_bits, lowest, within}
 use Rattle.lv_source.specs.Meaning.{Reading, Choice, meant, read_step, choice, read_expr, read_select, named}
 use Rattle.lv_source.specs.Effect.{Piece, piece_step, pieces, places, bits_in, piece_place, aimed}
-use Rattle.lv_source.specs.Sites.{Site, Step, Role, Written, Walk, WalkStep, walk, walk_select, walk_step, walk_select_step, step_shown, step_choice, step_sites, below_sites, target_sites, target_site_step, first_of}
-use Rattle.lv_source.specs.NodeRules.{is_width, can_be_read, is_unreadable, is_array_fault, is_select_fault, is_name_fault, is_clock_name, unknown_name, out_of_range, clock_use, zero_divisor}
+use Rattle.lv_source.specs.Sites.{Site, Step, Role, is_driven, Walk, WalkStep, walk, walk_select, walk_step, walk_select_step, step_shown, step_choice, step_sites, below_sites, target_sites, target_site_step, first_of}
+use Rattle.lv_source.specs.NodeRules.{is_width, is_written, can_be_read, is_unreadable, is_array_fault, is_select_fault, is_name_fault, is_clock_name, unknown_name, out_of_range, clock_use, zero_divisor}
 use Rattle.lv_source.specs.Parts.{is_declared_sort}
 use Rattle.lv_source.proofs.Bridges.{two, map-map}
 use Rattle.lv_const.proofs.Told.{none-joined, both-empty, width_in}
@@ -46,11 +46,12 @@ use Rattle.lv_resolve.specs.declared.error.ResolveError.TheVariants as x
 use Rattle.lv_resolve.specs.declared.goal.TargetForm.{TargetForm}
 use Rattle.lv_resolve.specs.declared.goal.TargetForms.{TargetForms}
 use Rattle.lv_resolve.specs.declared.picks.Picks.{Picks}
-use Rattle.lv_resolve.specs.Forms.{flaws, Told, has_select_operands}
+use Rattle.lv_resolve.specs.Forms.{flaws, Told, Covered, has_select_operands}
 use Rattle.lv_resolve.specs.Picks.{HasPicks, HasNoPicks, chosen_of, inside, array, select}
 use Rattle.lv_resolve.specs.Targets.{HasGoal, GoalAnswer, HasGoals, GoalsAnswer, bits_of_pieces, capped, has_target_operands, target_operands_step}
-use Rattle.lv_resolve.specs.TargetJoins.{piece_of, name_sites, IsAimed, AreMore}
+use Rattle.lv_resolve.specs.TargetJoins.{piece_of, target_role, name_sites, IsAimed, AreMore}
 use Rattle.lv_resolve.proofs.Covers.{within-first, within-second, within-below, within-then, Within, told-within, no-memory, told-range, told-name}
+use Rattle.lv_resolve.proofs.Loosened.{told-steps}
 use Rattle.lv_resolve.proofs.Nodes.{and-both, and-left, and-right}
 use Rattle.lv_resolve.proofs.NameLaws.{selects-good}
 use Rattle.lv_resolve.proofs.FixedLaws.{readable}
@@ -134,10 +135,10 @@ written-fault (Constant n) a h = or-true a
 written-fault (Index g) a h = refl
 written-fault Other a h = refl
 
-unwritten-name : (z : Site) (path : Path) (ss : List Step) (o : Option Declared) → z.node ≡ Expr-F.Name path ss → z.role ≡ Written → z.names path ≡ o →
+unwritten-name : (z : Site) (path : Path) (ss : List Step) (o : Option Declared) → z.node ≡ Expr-F.Name path ss → is_written z.role ≡ true → z.names path ≡ o →
     is_declared_sort (known o).sort ≡ false → unknown_name z ≡ path.place ∷ []
-unwritten-name z path ss None n r e h = rw (n, r, e) refl
-unwritten-name z path ss (Some d) n r e h = rw (n, r, e, written-fault d.sort (is_array_fault d.array ss) h) refl
+unwritten-name z path ss None n r e h = rw (n, e) refl
+unwritten-name z path ss (Some d) n r e h = rw (n, e, r, written-fault d.sort (is_array_fault d.array ss) h) refl
 
 no-constant : (z : Sort) → is_declared_sort z ≡ true → is_constant_sort z ≡ false
 no-constant Input h = refl
@@ -151,7 +152,15 @@ no-constant Other h = refl
 few : (n : ℕ) → n ≤ 128 → capped n ≡ n
 few n h = omega (arith, h)
 
-module _ (S : Signals) (here : Here) (path : Path) (ss : List Select) where
+written : (driven : Bool) → is_written (target_role driven) ≡ true
+written true = refl
+written false = refl
+
+driven-is : (driven : Bool) → is_driven (target_role driven) ≡ driven
+driven-is true = refl
+driven-is false = refl
+
+module _ (S : Signals) (here : Here) (driven : Bool) (path : Path) (ss : List Select) where
   abbrev ws : List WalkStep
   ws = map (walk_select here.names) ss
 
@@ -159,18 +168,21 @@ module _ (S : Signals) (here : Here) (path : Path) (ss : List Select) where
   top = walk_step here.names (Expr-F.Name path ws)
 
   abbrev site : Site
-  site = site_of here.names (Expr-F.Name path ws) Written None top.shown.reading.meaning.width top.shown.reading.meaning.signed
+  site = site_of here.names (Expr-F.Name path ws) (target_role driven) None top.shown.reading.meaning.width top.shown.reading.meaning.signed
 
   abbrev below : List Site
-  below = flat_map (step_sites false None) ws
+  below = flat_map (step_sites (is_driven (target_role driven)) None) ws
+
+  there-below : flat_map (step_sites driven None) ws ≡ below
+  there-below = ap (λ b. flat_map (step_sites b None) ws) (sym (driven-is driven))
 
   abbrev pub NameOf : Result TargetForm ResolveError → Type 0
-  NameOf r = GoalAnswer S here (name_sites here.names path ss) (piece_of here.names path ss ∷ []) (list_all has_select_operands ss) r
+  NameOf r = GoalAnswer S here (name_sites driven here.names path ss) (piece_of here.names path ss ∷ []) (list_all has_select_operands ss) r
 
   pub name-unwritten : is_declared_sort (known (here.names path)).sort ≡ false → NameOf (Err (x.UnknownName path.place))
   name-unwritten h = record {
     right = tt;
-    wrong = told-name here site below path.place [] (unwritten-name site path (map step_shown ws) (here.names path) refl refl refl h);
+    wrong = told-name here site below path.place [] (unwritten-name site path (map step_shown ws) (here.names path) refl (written driven) refl h);
   }
 
   module _ (k : ℕ) (there : here.names path ≡ Some (signal_at S k)) (sort : is_declared_sort (signal_at S k).sort ≡ true) where
@@ -185,18 +197,30 @@ module _ (S : Signals) (here : Here) (path : Path) (ss : List Select) where
         (ap (λ o. not (is_width (named (known o) (chosen_of ws)).meaning.width) || is_select_fault (known o) (map step_shown ws)) there ∙
         (ap (λ b. not (is_width (named d (chosen_of ws)).meaning.width) || b) h ∙ or-true (not (is_width (named d (chosen_of ws)).meaning.width))))
 
+    pub below-wrong : (y : ResolveError) → Told here (flat_map (step_sites driven None) ws) y → NameOf (Err y)
+    below-wrong y h = record { right = tt; wrong = told-within here below (site ∷ below) y (within-below site below) (subst (λ zs. Told here zs y) there-below h) }
+
     pub name-wrong : (y : ResolveError) → HasNoPicks here d ws path.place y → NameOf (Err y)
-    name-wrong y (inside h) = record { right = tt; wrong = told-within here below (site ∷ below) y (within-below site below) h }
+    name-wrong y (inside h) = below-wrong y (told-steps here driven ss y h)
     name-wrong y (array h e) = record {
       right = tt;
-      wrong = subst (Told here (name_sites here.names path ss)) (sym e) (told-name here site below path.place [] (told-array h));
+      wrong = subst (Told here (name_sites driven here.names path ss)) (sym e) (told-name here site below path.place [] (told-array h));
     }
     name-wrong y (select h e) = record {
       right = tt;
-      wrong = subst (Told here (name_sites here.names path ss)) (sym e) (told-range here site below path.place [] (told-select h));
+      wrong = subst (Told here (name_sites driven here.names path ss)) (sym e) (told-range here site below path.place [] (told-select h));
     }
 
-    module _ (p : Picks) (h : HasPicks S here d (list_all has_select_operands ss) ws p) where
+    module _ (p : Picks) (h : HasPicks S here d (list_all has_select_operands ss) ws p) (fixed : driven ≡ true → Covered here (λ W T. flat_map (step_sites true None) ws) 0 [] []) where
+      -- the notes of the selects
+      cover-by : (b : Bool) → (b ≡ true → Covered here (λ W T. flat_map (step_sites true None) ws) 0 [] []) →
+          Covered here (λ W T. flat_map (step_sites b None) ws) 0 (if b then [] else p.clocks) []
+      cover-by true k = k refl
+      cover-by false k = h.cover
+
+      cover : Covered here (λ W T. below) 0 (if driven then [] else p.clocks) []
+      cover = subst (λ zs. Covered here (λ W T. zs) 0 (if driven then [] else p.clocks) []) there-below (cover-by driven fixed)
+
       wide-is : (named d (chosen_of ws)).meaning.width ≡ p.width
       wide-is = sym h.width
 
@@ -204,7 +228,7 @@ module _ (S : Signals) (here : Here) (path : Path) (ss : List Select) where
       fits = ap is_width wide-is ∙ width_in p.width p.some p.most
 
       clean : flaws here site ≡ []
-      clean = rw (there, readable d.sort sort, h.array, no-constant d.sort sort, h.select, fits) refl
+      clean = rw (there, readable d.sort sort, h.array, written driven, no-constant d.sort sort, h.select, fits) refl
 
       piece-width : p.width ≡ capped (bits_of_pieces (piece_of here.names path ss ∷ []))
       piece-width =
@@ -216,7 +240,7 @@ module _ (S : Signals) (here : Here) (path : Path) (ss : List Select) where
           let b : bits_of_pieces (piece_of here.names path ss ∷ []) ≡ p.width = bits-cons (piece_place nowhere (piece_of here.names path ss)) [] ∙ omega (arith, a) in
           sym (ap capped b ∙ few p.width p.most)
 
-      pub name-right : (f : TargetForm) → IsAimed k (if is_clock_sort d.sort then path.place ∷ [] else []) path.place p f → NameOf (Ok f)
+      pub name-right : (f : TargetForm) → IsAimed driven k (if is_clock_sort d.sort then path.place ∷ [] else []) path.place p f → NameOf (Ok f)
       name-right f i = record {
         right = record {
           goal = ap (λ z. goal_of (flat.pieces S z)) i.target ∙ (ap goal_of (targets.pieces-Signal S (record { signal = k; place = path.place }) p.selects) ∙
@@ -225,17 +249,18 @@ module _ (S : Signals) (here : Here) (path : Path) (ss : List Select) where
           good = λ z. ap (are_targets S) i.target ∙ (targets-Signal S (record { signal = k; place = path.place }) p.selects ∙
               and-both _ _ sort (selects-good S here path ws (list_all has_select_operands ss) p d h z));
           width = i.width ∙ piece-width;
-          clean = both-empty (flaws here site) (flat_map (flaws here) below) clean (h.cover.clean 0 true);
-          zero = h.cover.none 0 true refl;
-          clocks = two (λ (a b : List ℕ). a ++ b) _ _ _ _ (ap (λ o. if is_clock_name o then path.place ∷ [] else []) there) (h.cover.clocks 0 true) ∙ sym i.clocks;
+          clean = both-empty (flaws here site) (flat_map (flaws here) below) clean (cover.clean 0 true);
+          zero = cover.none 0 true refl;
+          clocks = two (λ (a b : List ℕ). a ++ b) _ _ _ _ (ap (λ o. if is_clock_name o then path.place ∷ [] else []) there) (cover.clocks 0 true) ∙ sym i.clocks;
         };
         wrong = tt;
       }
 
     pub name-answer : (p : Picks) (r : Result TargetForm ResolveError) → HasPicks S here d (list_all has_select_operands ss) ws p →
-        IfOk r (IsAimed k (if is_clock_sort d.sort then path.place ∷ [] else []) path.place p) → IfErr r (λ y. y ≡ x.NoMemory) → NameOf r
-    name-answer p (Ok f) h i m = name-right p h f i
-    name-answer p (Err y) h i m = record { right = tt; wrong = subst (Told here (name_sites here.names path ss)) (sym m) (no-memory here (name_sites here.names path ss)) }
+        (driven ≡ true → Covered here (λ W T. flat_map (step_sites true None) ws) 0 [] []) →
+        IfOk r (IsAimed driven k (if is_clock_sort d.sort then path.place ∷ [] else []) path.place p) → IfErr r (λ y. y ≡ x.NoMemory) → NameOf r
+    name-answer p (Ok f) h q i m = name-right p h q f i
+    name-answer p (Err y) h q i m = record { right = tt; wrong = subst (Told here (name_sites driven here.names path ss)) (sym m) (no-memory here (name_sites driven here.names path ss)) }
 
 -- ---- concatenations
 
@@ -260,9 +285,9 @@ one-over f z = append-nil (f z)
 snoc : {A B : Type 0} (f : A → List B) (xs : List A) (z : A) → flat_map f (xs ++ z ∷ []) ≡ flat_map f xs ++ f z
 snoc f xs z = flat_map-append f xs (z ∷ []) ∙ ap (λ ys. flat_map f xs ++ ys) (one-over f z)
 
-module _ (S : Signals) (here : Here) where
+module _ (S : Signals) (here : Here) (driven : Bool) where
   abbrev pub sites_of : List Target → List Site
-  sites_of ts = flat_map (target_sites here.names Written) ts
+  sites_of ts = flat_map (target_sites here.names (target_role driven)) ts
 
   abbrev pub pieces_of : List Target → List Piece
   pieces_of ts = flat_map (pieces here.names) ts
@@ -294,21 +319,21 @@ module _ (S : Signals) (here : Here) where
     taken = take_more ts i z h ∙ ap (λ u. take i ts ++ u ∷ []) g
 
     pub at-more : (p q : TargetForms) (m : TargetForm) → HasGoals S here (sites_of (take i ts)) (pieces_of (take i ts)) (list_all has_target_operands (take i ts)) p →
-        HasGoal S here (target_sites here.names Written z) (pieces here.names z) (has_target_operands z) m → AreMore p m q →
+        HasGoal S here (target_sites here.names (target_role driven) z) (pieces here.names z) (has_target_operands z) m → AreMore p m q →
         HasGoals S here (sites_of (take (i + 1) ts)) (pieces_of (take (i + 1) ts)) (list_all has_target_operands (take (i + 1) ts)) q
     at-more p q m k n j = subst (λ us. HasGoals S here (sites_of us) (pieces_of us) (list_all has_target_operands us) q) (sym taken)
-        (subst (λ ss. HasGoals S here ss (pieces_of (take i ts ++ z ∷ [])) (list_all has_target_operands (take i ts ++ z ∷ [])) q) (sym (snoc (target_sites here.names Written) (take i ts) z))
-        (subst (λ ps. HasGoals S here (sites_of (take i ts) ++ target_sites here.names Written z) ps (list_all has_target_operands (take i ts ++ z ∷ [])) q) (sym (snoc (pieces here.names) (take i ts) z))
-        (subst (λ b. HasGoals S here (sites_of (take i ts) ++ target_sites here.names Written z) (pieces_of (take i ts) ++ pieces here.names z) b q)
+        (subst (λ ss. HasGoals S here ss (pieces_of (take i ts ++ z ∷ [])) (list_all has_target_operands (take i ts ++ z ∷ [])) q) (sym (snoc (target_sites here.names (target_role driven)) (take i ts) z))
+        (subst (λ ps. HasGoals S here (sites_of (take i ts) ++ target_sites here.names (target_role driven) z) ps (list_all has_target_operands (take i ts ++ z ∷ [])) q) (sym (snoc (pieces here.names) (take i ts) z))
+        (subst (λ b. HasGoals S here (sites_of (take i ts) ++ target_sites here.names (target_role driven) z) (pieces_of (take i ts) ++ pieces here.names z) b q)
         (sym (all-snoc has_target_operands (take i ts) z))
-        (more (sites_of (take i ts)) (target_sites here.names Written z) (pieces_of (take i ts)) (pieces here.names z) (list_all has_target_operands (take i ts)) (has_target_operands z)
+        (more (sites_of (take i ts)) (target_sites here.names (target_role driven) z) (pieces_of (take i ts)) (pieces here.names z) (list_all has_target_operands (take i ts)) (has_target_operands z)
         p q m k n j))))
 
-    within-all : (us vs : List Target) → Within (target_sites here.names Written z) (sites_of (us ++ z ∷ vs))
-    within-all [] vs = within-first (target_sites here.names Written z) (sites_of vs)
-    within-all (u ∷ us) vs = within-then _ _ _ (within-all us vs) (within-second (target_sites here.names Written u) (sites_of (us ++ z ∷ vs)))
+    within-all : (us vs : List Target) → Within (target_sites here.names (target_role driven) z) (sites_of (us ++ z ∷ vs))
+    within-all [] vs = within-first (target_sites here.names (target_role driven) z) (sites_of vs)
+    within-all (u ∷ us) vs = within-then _ _ _ (within-all us vs) (within-second (target_sites here.names (target_role driven) u) (sites_of (us ++ z ∷ vs)))
 
-    pub at-none : (ok : Bool) (y : ResolveError) → Told here (target_sites here.names Written z) y → GoalsAnswer S here (sites_of ts) (pieces_of ts) ok (Err y)
+    pub at-none : (ok : Bool) (y : ResolveError) → Told here (target_sites here.names (target_role driven) z) y → GoalsAnswer S here (sites_of ts) (pieces_of ts) ok (Err y)
     at-none ok y k = record {
       right = tt;
       wrong = subst (λ us. Told here (sites_of us) y) (sym (parted ts i z h g)) (told-within here _ _ y (within-all (take i ts) (drop (i + 1) ts)) k);
@@ -351,24 +376,24 @@ ok-Cat : (ts : List Target) → has_target_operands (tree.Cat ts) ≡ list_all h
 unfolding has_target_operands
 ok-Cat ts = fold.fold_target-Cat Bool target_operands_step ts ∙ all-map has_target_operands ts
 
-module _ (S : Signals) (here : Here) where
+module _ (S : Signals) (here : Here) (driven : Bool) where
   abbrev pub TargetOf : Target → Result TargetForm ResolveError → Type 0
-  TargetOf z r = GoalAnswer S here (target_sites here.names Written z) (pieces here.names z) (has_target_operands z) r
+  TargetOf z r = GoalAnswer S here (target_sites here.names (target_role driven) z) (pieces here.names z) (has_target_operands z) r
 
-  arm : (z y : Target) (ss : List Site) (ps : List Piece) (ok : Bool) (r : Result TargetForm ResolveError) → z ≡ y → target_sites here.names Written y ≡ ss → pieces here.names y ≡ ps →
+  arm : (z y : Target) (ss : List Site) (ps : List Piece) (ok : Bool) (r : Result TargetForm ResolveError) → z ≡ y → target_sites here.names (target_role driven) y ≡ ss → pieces here.names y ≡ ps →
       has_target_operands y ≡ ok → GoalAnswer S here ss ps ok r → TargetOf z r
   arm z y ss ps ok r e a b c h = subst (λ u. TargetOf u r) (sym e)
       (subst (λ v. GoalAnswer S here v (pieces here.names y) (has_target_operands y) r) (sym a)
       (subst (λ v. GoalAnswer S here ss v (has_target_operands y) r) (sym b) (subst (λ v. GoalAnswer S here ss ps v r) (sym c) h)))
 
-  pub at-Name : (z : Target) (path : Path) (ss qs : List Select) (r : Result TargetForm ResolveError) → z ≡ tree.Name path ss → qs ≡ ss → NameOf S here path qs r → TargetOf z r
-  at-Name z path ss qs r e k h = arm z (tree.Name path ss) (name_sites here.names path ss) (piece_of here.names path ss ∷ []) (list_all has_select_operands ss) r e
-      (sites-Name here.names Written path ss) (pieces-Name here.names path ss) (ok-Name path ss) (subst (λ us. NameOf S here path us r) k h)
+  pub at-Name : (z : Target) (path : Path) (ss qs : List Select) (r : Result TargetForm ResolveError) → z ≡ tree.Name path ss → qs ≡ ss → NameOf S here driven path qs r → TargetOf z r
+  at-Name z path ss qs r e k h = arm z (tree.Name path ss) (name_sites driven here.names path ss) (piece_of here.names path ss ∷ []) (list_all has_select_operands ss) r e
+      (sites-Name here.names (target_role driven) path ss) (pieces-Name here.names path ss) (ok-Name path ss) (subst (λ us. NameOf S here driven path us r) k h)
 
   pub at-Cat : (z : Target) (ts us : List Target) (g : TargetForms) (f : TargetForm) → z ≡ tree.Cat ts → us ≡ ts →
-      HasGoals S here (sites_of S here us) (pieces_of S here us) (list_all has_target_operands us) g → f.target ≡ t.Cat g.targets → f.width ≡ g.width → f.clocks ≡ g.clocks → TargetOf z (Ok f)
-  at-Cat z ts us g f e k h a b c = arm z (tree.Cat ts) (sites_of S here ts) (pieces_of S here ts) (list_all has_target_operands ts) (Ok f) e
-      (sites-Cat here.names Written ts) (pieces-Cat here.names ts) (ok-Cat ts) (let q = subst (λ vs. HasGoals S here (sites_of S here vs) (pieces_of S here vs) (list_all has_target_operands vs) g) k h in record {
+      HasGoals S here (sites_of S here driven us) (pieces_of S here driven us) (list_all has_target_operands us) g → f.target ≡ t.Cat g.targets → f.width ≡ g.width → f.clocks ≡ g.clocks → TargetOf z (Ok f)
+  at-Cat z ts us g f e k h a b c = arm z (tree.Cat ts) (sites_of S here driven ts) (pieces_of S here driven ts) (list_all has_target_operands ts) (Ok f) e
+      (sites-Cat here.names (target_role driven) ts) (pieces-Cat here.names ts) (ok-Cat ts) (let q = subst (λ vs. HasGoals S here (sites_of S here driven vs) (pieces_of S here driven vs) (list_all has_target_operands vs) g) k h in record {
         right = record {
           goal = ap (λ v. goal_of (flat.pieces S v)) a ∙ (ap goal_of (targets.pieces-Cat S g.targets ∙ over-map (flat.pieces S) g.targets) ∙ q.goal);
           good = λ v. ap (are_targets S) a ∙ (targets-Cat S g.targets ∙ (all-map (are_targets S) g.targets ∙ q.good v));
@@ -380,6 +405,6 @@ module _ (S : Signals) (here : Here) where
         wrong = tt;
       })
 
-  pub cat-none : (z : Target) (ts us : List Target) (y : ResolveError) → z ≡ tree.Cat ts → us ≡ ts → Told here (sites_of S here us) y → TargetOf z (Err y)
-  cat-none z ts us y e k h = arm z (tree.Cat ts) (sites_of S here ts) (pieces_of S here ts) (list_all has_target_operands ts) (Err y) e
-      (sites-Cat here.names Written ts) (pieces-Cat here.names ts) (ok-Cat ts) (record { right = tt; wrong = subst (λ vs. Told here (sites_of S here vs) y) k h })
+  pub cat-none : (z : Target) (ts us : List Target) (y : ResolveError) → z ≡ tree.Cat ts → us ≡ ts → Told here (sites_of S here driven us) y → TargetOf z (Err y)
+  cat-none z ts us y e k h = arm z (tree.Cat ts) (sites_of S here driven ts) (pieces_of S here driven ts) (list_all has_target_operands ts) (Err y) e
+      (sites-Cat here.names (target_role driven) ts) (pieces-Cat here.names ts) (ok-Cat ts) (record { right = tt; wrong = subst (λ vs. Told here (sites_of S here driven vs) y) k h })

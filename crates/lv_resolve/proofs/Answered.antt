@@ -79,7 +79,7 @@ module _ (here : Here) where
   no-range : (s : Site) → flaws here s ≡ [] → out_of_range s ≡ []
   no-range s h = second-empty (unknown_name s ++ unfixed_at here s) (out_of_range s) h
 
-  faultless : (ss : List Site) → flat_map (flaws here) ss ≡ [] → flat_map zero_divisor ss ≡ [] → AreFaultless (spots here ss)
+  pub faultless : (ss : List Site) → flat_map (flaws here) ss ≡ [] → flat_map zero_divisor ss ≡ [] → AreFaultless (spots here ss)
   faultless ss h k = record {
     unknown = none-each here unknown_name (site_faults UnknownName) ss (λ s. refl) no-name h;
     unfixed = none-each here (unfixed_at here) (site_faults NotConstant) ss (λ s. refl) no-unfixed h;
@@ -87,7 +87,7 @@ module _ (here : Here) where
     range = none-each here out_of_range (site_faults Range) ss (λ s. refl) no-range h;
   }
 
-  told-of : (ss : List Site) (e : ResolveError) → Tells here ss e → IsToldOf (spots here ss) e
+  pub told-of : (ss : List Site) (e : ResolveError) → Tells here ss e → IsToldOf (spots here ss) e
   told-of ss (x.UnknownName p) h = in-same _ _ p (sym (spotted here (site_faults UnknownName) ss)) h
   told-of ss (x.NotConstant p) h = in-same _ _ p (sym (spotted here (site_faults NotConstant) ss)) h
   told-of ss (x.ZeroDivisor p) h = in-same _ _ p (sym (spotted here (site_faults ZeroDivisor) ss)) h

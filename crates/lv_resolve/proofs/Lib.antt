@@ -5,6 +5,7 @@ pub mod Covers
 pub mod FixedLaws
 pub mod LateNames
 pub mod Lengths
+pub mod Loosened
 pub mod NameLaws
 pub mod Nodes
 pub mod OperandLaws
@@ -14,4 +15,6 @@ pub mod Rules
 pub mod SelectArms
 pub mod Settles
 pub mod Steady
+pub mod TargetArms
+pub mod TargetLaws
 pub mod Zeros

@@ -342,7 +342,7 @@ module _ (S : Signals) (here : Here) (path : Path) (ws : List WalkStep) (ok join
 -- ---- signals and constants
 
 module _ (S : Signals) (here : Here) (path : Path) (ws : List WalkStep) (ok : Bool) (p : Picks) where
-  selects-good : (d : Declared) → HasPicks S here d ok ws p → ok ≡ true → good_selects d (map (judge_select S) p.selects) ≡ true
+  pub selects-good : (d : Declared) → HasPicks S here d ok ws p → ok ≡ true → good_selects d (map (judge_select S) p.selects) ≡ true
   selects-good d h k = and-both _ _ (ap not h.flat_array) (and-both _ _ (ap not h.flat_select) (h.good k))
 
   pub signal-answer : (k : ℕ) (r : Result Form ResolveError) → here.names path ≡ Some (signal_at S k) → is_declared_sort (signal_at S k).sort ≡ true →

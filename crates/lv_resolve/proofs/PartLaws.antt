@@ -315,7 +315,7 @@ and-assoc : (a b c : Bool) → a && (b && c) ≡ (a && b) && c
 and-assoc true b c = refl
 and-assoc false b c = refl
 
-all-snoc : {A : Type 0} (f : A → Bool) (xs : List A) (x : A) → list_all f (xs ++ x ∷ []) ≡ list_all f xs && f x
+pub all-snoc : {A : Type 0} (f : A → Bool) (xs : List A) (x : A) → list_all f (xs ++ x ∷ []) ≡ list_all f xs && f x
 all-snoc f [] x = sym (and-true (f x))
 all-snoc f (y ∷ xs) x = ap (λ b. f y && b) (all-snoc f xs x) ∙ and-assoc (f y) (list_all f xs) (f x)
 

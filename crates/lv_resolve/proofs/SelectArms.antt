@@ -262,16 +262,16 @@ module _ (S : Signals) (here : Here) (d : Declared) (h : Head) (hd : IsHead d h)
 
 -- ---- names
 
-no-signal : (ss : List Signal) (k : ℕ) → None ≡ slice_get ss k → is_declared_sort (signal_at (declared_all ss) k).sort ≡ true → ⊥
+pub no-signal : (ss : List Signal) (k : ℕ) → None ≡ slice_get ss k → is_declared_sort (signal_at (declared_all ss) k).sort ≡ true → ⊥
 no-signal [] k h d = cc
 no-signal (s ∷ ss) zero h d = cc
 no-signal (s ∷ ss) (suc k) h d = no-signal ss k h d
 
-abbrev signal_or : Signal → Option Signal → Signal
+abbrev pub signal_or : Signal → Option Signal → Signal
 signal_or s None = s
 signal_or s (Some t) = t
 
-the-signal : (ss : List Signal) (k : ℕ) (s : Signal) → Some s ≡ slice_get ss k → signal_at (declared_all ss) k ≡ declared s
+pub the-signal : (ss : List Signal) (k : ℕ) (s : Signal) → Some s ≡ slice_get ss k → signal_at (declared_all ss) k ≡ declared s
 the-signal [] k s h = cc
 the-signal (t ∷ ss) zero s h = ap (λ o. declared (signal_or s o)) (sym h)
 the-signal (t ∷ ss) (suc k) s h = the-signal ss k s h

@@ -4,3 +4,5 @@ pub mod Late
 pub mod Picks
 pub mod Places
 pub mod Resolved
+pub mod TargetJoins
+pub mod Targets

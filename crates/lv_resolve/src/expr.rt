@@ -240,7 +240,7 @@ fn name<B: Bindings>(
 
 /// The selects of a name that is declared so.
 #[cycle(forms)]
-fn picks<B: Bindings>(
+pub fn picks<B: Bindings>(
     alloc: Global,
     place: &Place<B>,
     head: &Head,

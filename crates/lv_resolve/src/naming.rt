@@ -257,7 +257,7 @@ pub fn const_form(alloc: Global, constant: &Const, picks: Picks) -> Form
 }
 
 /// The place of a clock's name.
-fn clock_places(alloc: Global, sort: Sort, at: u64) -> Result<Items<u64>, ResolveError>
+pub fn clock_places(alloc: Global, sort: Sort, at: u64) -> Result<Items<u64>, ResolveError>
     ensures ok { IfOk result (λ cs. cs ≡ (if is_clock_sort (sort_of sort) then at ∷ [] else [])) }
     ensures err { IfErr result (λ x. x ≡ NoMemory) }
 {

@@ -1,18 +1,18 @@
 -- Cells that have one name are one cell.
-use Rattle.std.proofs.Common.{◌≡◌, ℕ, zero, suc, ◌+◌, ◌-◌, ◌<◌, ◌≤◌, Bool, true, false, not, ◌&&◌, List, [], ◌∷◌, ◌++◌, length, take, refl, sym, ◌∙◌, ap, subst, arith, length-append, Option, Some, None, inl, inr}
-use Rattle.std.specs.Prelude.{bytes_eq, decimal, nat_lt}
-use Rattle.std.proofs.lemmas.Bool.{cases_lt, cases_eq}
+use Rattle.std.proofs.Common.{◌≡◌, ℕ, zero, suc, ◌+◌, ◌-◌, ◌<◌, ◌≤◌, true, [], ◌∷◌, length, take, refl, sym, ◌∙◌, ap, arith, length-append, Option, Some, None, inl, inr}
+use Rattle.std.specs.Prelude.{bytes_eq, decimal}
+use Rattle.std.proofs.lemmas.Bool.{cases_lt}
 use Rattle.std.proofs.lemmas.Bool.Decides.{nat_tests}
 use Rattle.std.proofs.lemmas.Slice.Eq.{bytes_eq-Decides}
-use Rattle.lv_ast.specs.Names.{Name, at_index}
-use Rattle.lv_source.specs.Names.{Bounds, Declared, width_of, low, high, size, is_signal_sort}
+use Rattle.lv_ast.specs.Names.{at_index}
+use Rattle.lv_source.specs.Names.{Bounds, low, high, size, is_signal_sort}
 use Rattle.lv_source.specs.Places.{within}
 use Rattle.lv_source.proofs.Tests.{and-left, and-right}
 use Rattle.lv_flat.specs.Cells.{cell_at, cells_of, all_cells, AreDistinct}
 use Rattle.lv_flat.specs.Signals.{Signals, signal_at}
 use Rattle.lv_spans.specs.Sets.{Cell}
 use Rattle.lv_spans.specs.Domain.{is_element_in, is_cell, name_by}
-use Rattle.lv_lower_exprs.proofs.Wholes.{signal_in, cell_is, element_is, array-count, one-cell}
+use Rattle.lv_lower_exprs.proofs.Wholes.{cell_is, element_is, array-count, one-cell}
 
 abbrev first : Signals → ℕ → ℕ
 first S k = length (all_cells (take k S))

@@ -1,12 +1,8 @@
 -- A constant expression is judged alike whatever signals there are.
-use Rattle.std.proofs.Common.{◌≡◌, ℕ, Bool, true, false, ◌&&◌, List, [], ◌∷◌, map, refl, ap, ◌∙◌, sym}
+use Rattle.std.proofs.Common.{◌≡◌, Bool, true, not, ◌&&◌, List, [], ◌∷◌, map, refl, ap, ◌∙◌}
 use Rattle.std.specs.List.{list_all}
-use Rattle.lv_bits.specs.Values.{is_unary}
-use Rattle.lv_ast.specs.declared.expr.Expr.TheOpen.{Select-F}
-use Rattle.lv_source.specs.Names.{is_constant_sort}
 use Rattle.lv_source.specs.Meaning.{Reading, all_constant, parts_of}
-use Rattle.lv_source.specs.NodeRules.{is_width, is_array_fault, is_select_fault}
-use Rattle.lv_source.specs.Parts.{is_declared_sort}
+use Rattle.lv_source.specs.NodeRules.{is_width, is_select_fault}
 use Rattle.lv_source.proofs.Tests.{and-left, and-right}
 use Rattle.lv_const.specs.Constants.{constant_of}
 use Rattle.lv_const.proofs.WalkReads.{two-same}
@@ -16,7 +12,7 @@ use Rattle.lv_flat.specs.declared.expr.FlatExpr.TheOpen.{FlatExpr-F, FlatSelect-
 use Rattle.lv_flat.specs.declared.expr.FlatSelect.{FlatSelect}
 use Rattle.lv_flat.specs.declared.expr.FlatSelect.TheVariants as s
 use Rattle.lv_flat.specs.Signals.{Signals, signal_at}
-use Rattle.lv_flat.specs.Judged.{Judged, JudgedSelect, judge_step, judge_choice, judge, readings, choices, layer_good, good_selects, step_of}
+use Rattle.lv_flat.specs.Judged.{Judged, JudgedSelect, judge_step, judge_choice, judge, readings, choices, step_of}
 use Rattle.lv_flat.specs.Trees.{fold_expr, fold_exprs, fold_one, fold_select, fold_selects}
 use Rattle.lv_lower_exprs.proofs.Naming.{never-constant}
 
@@ -46,8 +42,10 @@ module _ (S : Signals) where
     alike : (x : FlatExpr) → (here x).reading.constant ≡ true → (here x).good ≡ true → here x ≡ there x
     alike (e.Lit l) k g = refl
     alike (e.Const' c n ss) k g =
-        let gs = and-right _ _ g in
-        ap (λ cs. judge_step [] (FlatExpr-F.Const c cs)) (alike-selects ss k (and-right _ _ (and-right _ _ gs)))
+        let cs : List JudgedSelect = fold_selects Judged JudgedSelect (judge_step S) judge_choice ss in
+        let fault : Bool = is_select_fault (constant_of [] c) (map step_of (choices cs)) in
+        let gs : (not fault && GoodChoices cs) ≡ true = and-right (is_width (judge_step S (FlatExpr-F.Const c cs)).reading.meaning.width) (not fault && GoodChoices cs) g in
+        ap (λ xs. judge_step [] (FlatExpr-F.Const c xs)) (alike-selects ss k (and-right (not fault) (GoodChoices cs) gs))
     alike (e.Signal' j n ss) k g =
         absurd (never-constant (signal_at S j).sort (and-left _ _ (and-right _ _ g)) (and-left _ _ k))
     alike (e.Un' op n a) k g = ap (λ j. judge_step [] (FlatExpr-F.Un op j)) (alike-one a (and-left _ _ k) (and-right _ _ (and-right _ _ g)))

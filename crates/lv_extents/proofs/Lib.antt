@@ -1,7 +1,11 @@
+mod Aims
 mod Apart
 mod Constants
+mod Lists
 mod Named
+mod PartViews
 mod Readings
 mod Runs
 mod Spans
+mod Events
 mod Worlds

@@ -1,5 +1,5 @@
 -- What an expression reads, by the form of the tree.
-use Rattle.std.proofs.Common.{◌≡◌, ℕ, Bool, true, false, ◌&&◌, List, [], ◌∷◌, ◌++◌, map, flat_map, take, length, get_or, ◌<◌, ◌+◌, refl, sym, ◌∙◌, ap, subst, arith}
+use Rattle.std.proofs.Common.{◌≡◌, ℕ, zero, suc, Bool, true, false, ◌&&◌, List, [], ◌∷◌, ◌++◌, map, flat_map, take, length, get_or, ◌<◌, ◌+◌, refl, sym, ◌∙◌, ap, subst, arith}
 use Rattle.std.specs.List.{list_all}
 use Rattle.std.proofs.Math.Seq.{take-suc}
 use Rattle.std.proofs.lemmas.Grind.{flat_map-append}
@@ -12,15 +12,19 @@ use Rattle.lv_source.specs.Parts.{is_declared_sort}
 use Rattle.lv_const.specs.declared.constant.Const.{Const}
 use Rattle.lv_flat.specs.declared.expr.FlatExpr.{FlatExpr}
 use Rattle.lv_flat.specs.declared.expr.FlatExpr.TheVariants as e
+use Rattle.lv_flat.specs.declared.expr.FlatExpr.TheOpen.{FlatExpr-F}
 use Rattle.lv_flat.specs.declared.expr.FlatSelect.{FlatSelect}
 use Rattle.lv_flat.specs.declared.expr.FlatSelect.TheVariants as s
 use Rattle.lv_flat.specs.Signals.{Signals, signal_at}
-use Rattle.lv_flat.specs.Judged.{Judged, JudgedSelect, judge, judge_select, reading, readings, is_good}
+use Rattle.lv_flat.specs.Judged.{Judged, JudgedSelect, judge, judge_step, judge_select, reading, readings, is_good, good_selects, layer_good}
+use Rattle.lv_source.specs.NodeRules.{is_width}
+use Rattle.lv_source.proofs.Tests.{and-left, and-right}
+use Rattle.lv_lower_exprs.specs.Named.{is_good_select, are_good_selects}
 use Rattle.lv_flat.proofs.Judgements.{judge-Lit, judge-Const, judge-Signal, judge-Un, judge-Bin, judge-Div, judge-Rem, judge-Cond, judge-Cat, judge-Rep, judge-Cast, judge_select-Bit, judge_select-Part, judge_select-Up, judge_select-Down}
 use Rattle.lv_spans.specs.declared.span.Span.{Span}
 use Rattle.lv_lower_exprs.proofs.Naming.{never-constant}
 use Rattle.lv_extents.specs.Adds.{Adds, taken}
-use Rattle.lv_extents.proofs.Spans.{append-nil, adds-then, adds-none}
+use Rattle.lv_extents.proofs.Spans.{append-nil}
 
 pub record Same (r : Reading) (c : Bool) (bs : List Bit) : Type 0 where
   pub constant : r.constant ≡ c
@@ -156,11 +160,13 @@ module _ (S : Signals) where
   abbrev J : FlatSelect → JudgedSelect
   J x = judge_select S x
 
-  pub index-more : (ss : List FlatSelect) (i : ℕ) (x : FlatSelect) → i < length ss → x ≡ get_or ss i x → index_reads (taken S (take (i + 1) ss)) ≡ index_reads (taken S (take i ss)) ++ select_reads x
+  pub index-more : (ss : List FlatSelect) (i : ℕ) (x : FlatSelect) → i < length ss → x ≡ get_or ss i x →
+      index_reads (taken S (take (i + 1) ss)) ≡ index_reads (taken S (take i ss)) ++ select_reads x
   index-more ss i x lt h =
       ap (λ xs. index_reads (taken S xs)) (taken-more ss i x lt h) ∙ (ap (λ cs. index_reads (map (λ (c : JudgedSelect). c.choice) cs)) (map-snoc J (take i ss) x) ∙
       (ap index_reads (map-snoc (λ (c : JudgedSelect). c.choice) (map J (take i ss)) (J x)) ∙
-      (flat_map-append (λ (c : Choice). flat_map (λ (r : Reading). r.reads) (parts_of c)) (taken S (take i ss)) ((J x).choice ∷ []) ∙ ap (λ bs. index_reads (taken S (take i ss)) ++ bs) (append-nil (select_reads x)))))
+      (flat_map-append (λ (c : Choice). flat_map (λ (r : Reading). r.reads) (parts_of c)) (taken S (take i ss)) ((J x).choice ∷ []) ∙ ap (λ bs. index_reads (taken S (take i ss)) ++ bs)
+      (append-nil (select_reads x)))))
 
   pub index-constant-more : (ss : List FlatSelect) (i : ℕ) (x : FlatSelect) → i < length ss → x ≡ get_or ss i x →
       all_constant (taken S (take (i + 1) ss)) ≡ (all_constant (taken S (take i ss)) && select_constant x)
@@ -168,3 +174,23 @@ module _ (S : Signals) where
       ap (λ xs. all_constant (taken S xs)) (taken-more ss i x lt h) ∙ (ap (λ cs. all_constant (map (λ (c : JudgedSelect). c.choice) cs)) (map-snoc J (take i ss) x) ∙
       (ap all_constant (map-snoc (λ (c : JudgedSelect). c.choice) (map J (take i ss)) (J x)) ∙
       all-snoc (λ (c : Choice). list_all (λ (r : Reading). r.constant) (parts_of c)) (taken S (take i ss)) (J x).choice))
+
+  pub signal-selects : (x : FlatExpr) → is_good S x ≡ true → (k : ℕ) (ss : List FlatSelect) → x ≡ e.Signal k ss → good_selects (signal_at S k) (map (judge_select S) ss) ≡ true
+  signal-selects x g k ss h =
+      let j : judge S x ≡ judge_step S (FlatExpr-F.Signal k (map (judge_select S) ss)) = ap (judge S) h ∙ judge-Signal S k ss in
+      let l = good-layer-of (FlatExpr-F.Signal k (map (judge_select S) ss)) (sym (ap (λ (i : Judged). i.good) j) ∙ g) in
+      and-right (is_declared_sort (signal_at S k).sort) (good_selects (signal_at S k) (map (judge_select S) ss)) l
+    where
+      good-layer-of : (y : FlatExpr-F Judged JudgedSelect) → (judge_step S y).good ≡ true → layer_good S y ≡ true
+      good-layer-of y h = and-right (is_width (judge_step S y).reading.meaning.width) (layer_good S y) h
+
+  pub good-select-at : (ss : List FlatSelect) (i : ℕ) (x : FlatSelect) → i < length ss → x ≡ get_or ss i x → are_good_selects S ss ≡ true → is_good_select S x ≡ true
+  good-select-at [] i x lt h g = absurd (omega (arith, lt))
+  good-select-at (y ∷ ys) zero x lt h g = ap (is_good_select S) h ∙ and-left (is_good_select S y) (are_good_selects S ys) g
+  good-select-at (y ∷ ys) (suc i) x lt h g = good-select-at ys i x (omega (arith, lt)) h (and-right (is_good_select S y) (are_good_selects S ys) g)
+
+pub both-constant : {x y b c r : Bool} → x ≡ b → y ≡ c → r ≡ (b && c) → (x && y) ≡ r
+both-constant {y = y} {b = b} h k e = ap (λ u. u && y) h ∙ (ap (λ u. b && u) k ∙ sym e)
+
+pub all-three : {x y z a b c r : Bool} → x ≡ a → y ≡ b → z ≡ c → r ≡ (a && (b && c)) → (x && (y && z)) ≡ r
+all-three h k l e = both-constant h (both-constant k l refl) e

@@ -1,15 +1,14 @@
 -- Which bits a run of places has, and which a mask.
-use Rattle.std.proofs.Common.{◌≡◌, ◌≢◌, ℕ, zero, suc, ◌+◌, ◌-◌, ◌^◌, ◌<◌, ◌≤◌, Bool, true, false, not, ◌&&◌, ◌||◌, ◌==◌, List, [], ◌∷◌, ◌++◌, map, flat_map, refl, sym, ◌∙◌, ap, arith, Option, Some, None, inl, inr}
+use Rattle.std.proofs.Common.{◌≡◌, ◌≢◌, ℕ, zero, suc, ◌+◌, ◌-◌, ◌^◌, ◌<◌, ◌≤◌, Bool, true, false, not, ◌&&◌, ◌||◌, ◌==◌, List, ◌++◌, map, flat_map, refl, sym, ◌∙◌, ap, arith, Option, inl, inr}
 use Rattle.std.specs.Prelude.{nat_lt, bytes_eq}
-use Rattle.std.specs.List.{list_any, range_with_len}
-use Rattle.std.specs.Int.{bit_at}
+use Rattle.std.specs.List.{range_with_len}
 use Rattle.std.proofs.lemmas.Bool.{cases_lt, cases_eq}
 use Rattle.std.proofs.lemmas.Bool.Decides.{nat_tests}
 use Rattle.std.proofs.lemmas.Grind.{flat_map-append}
 use Rattle.std.proofs.lemmas.List.Folds.{list_any-append}
 use Rattle.std.proofs.lemmas.Nat.Bits.{bit_at_mask_inside, bit_at_mask_below, bit_at_mask_above}
 use Rattle.lv_ast.specs.Names.{Name}
-use Rattle.lv_source.specs.Places.{Bit, Place, same_bit, has_bit, some_bit, place_bits, bits_below}
+use Rattle.lv_source.specs.Places.{Bit, same_bit, has_bit, some_bit, place_bits, bits_below}
 use Rattle.lv_values.specs.Windows.{nones, somes, run}
 use Rattle.lv_spans.specs.Sets.{is_set}
 

@@ -1,11 +1,12 @@
 -- Spans that have the bits of a list.
-use Rattle.std.proofs.Common.{◌≡◌, ℕ, zero, suc, ◌+◌, ◌-◌, ◌^◌, ◌<◌, ◌≤◌, Bool, true, false, not, ◌&&◌, ◌||◌, ◌==◌, List, [], ◌∷◌, ◌++◌, map, flat_map, refl, sym, ◌∙◌, ap, subst, arith, Option, Some, None, inl, inr}
-use Rattle.std.specs.Prelude.{nat_lt, bytes_eq, decimal, All}
+use Rattle.std.proofs.Common.{◌≡◌, ℕ, zero, suc, ◌+◌, ◌-◌, ◌^◌, ◌<◌, ◌≤◌, ◌⊎◌, Bool, true, false, ◌&&◌, ◌||◌, List, [], ◌∷◌, ◌++◌, map, flat_map, refl, sym, ◌∙◌, ap, subst, arith, Option, Some, None, inl, inr}
+use Rattle.std.specs.Prelude.{bytes_eq, decimal}
 use Rattle.std.specs.List.{list_any, range_with_len}
+use Rattle.std.proofs.lemmas.Bool.{cases_lt}
 use Rattle.std.proofs.lemmas.Bool.Decides.{nat_tests}
 use Rattle.std.proofs.lemmas.List.{append_assoc}
 use Rattle.std.proofs.lemmas.List.Folds.{list_any-append}
-use Rattle.std.proofs.lemmas.List.All.{All-nil, All-cons, All-append}
+use Rattle.std.proofs.lemmas.List.Elements.{All-nil, All-cons, All-append}
 use Rattle.std.proofs.lemmas.Nat.{pow_below, pow_pos}
 use Rattle.std.proofs.lemmas.Slice.Eq.{bytes_eq-Decides}
 use Rattle.lv_ast.specs.Names.{Name, at_index}
@@ -17,10 +18,10 @@ use Rattle.lv_flat.specs.Signals.{Signals, signal_at}
 use Rattle.lv_values.specs.Windows.{run}
 use Rattle.lv_spans.specs.declared.span.Span.{Span}
 use Rattle.lv_spans.specs.Sets.{Cell, is_set, is_under, is_element}
-use Rattle.lv_spans.specs.Domain.{is_element_in, is_cell, is_bit, name_by, bit_of, spans_have, IsSetOf, IsSpan, AreSpansOf}
+use Rattle.lv_spans.specs.Domain.{is_element_in, is_cell, name_by, bit_of, spans_have, IsSpan, AreSpansOf}
 use Rattle.lv_extents.specs.Adds.{Adds}
 use Rattle.lv_extents.proofs.Apart.{same-name, is-under}
-use Rattle.lv_extents.proofs.Runs.{in_run, run-has, below-has, mask-has, run-most, lt-true, lt-false, of-lt, of-eq, eq-true}
+use Rattle.lv_extents.proofs.Runs.{in_run, run-has, below-has, mask-has, run-most, lt-true, lt-false, of-eq, eq-true}
 
 -- ---- lists of spans
 
@@ -86,6 +87,9 @@ module _ (S : Signals) where
         sym (list_any-append (same_bit b) bits (n ++ m)))) (p.adds bits h);
   }
 
+  pub adds-from : (start y : List Span) (m : List Bit) → start ≡ [] → Adds S start y m → AreSpansOf S m y
+  adds-from start y m e p = (subst (λ (x : List Span). Adds S x y m) e p).adds [] (none-of S [] (λ b. refl))
+
   pub adds-all : (y : List Span) (m : List Bit) → Adds S [] y m → AreSpansOf S m y
   adds-all y m p = p.adds [] (none-of S [] (λ b. refl))
 
@@ -129,14 +133,14 @@ two-true false b h k = h
 bit-same : (b : Bit) (n : Name) → bytes_eq b.name n ≡ true → record { name = n; place = b.place } ≡ b
 bit-same b n h = ap (λ m. record { name = m; place = b.place }) (sym ((bytes_eq-Decides b.name n).0 h))
 
+below-or-same : (a b : ℕ) → a ≤ b → (a < b) ⊎ (a ≡ b)
+below-or-same a b le = elim (cases_lt a b) [ inl lt ↦ inl lt | inr ge ↦ inr (omega (arith, le, ge)) ]
+
+pub pow-up : (a b : ℕ) → a ≤ b → 2 ^ a ≤ 2 ^ b
+pow-up a b le = elim (below-or-same a b le) [ inl lt ↦ let p = pow_below a b lt in omega (arith, p) | inr e ↦ let f = ap (λ x. 2 ^ x) e in omega (arith, f) ]
+
 smaller : (lo hi w : ℕ) → lo < hi → hi ≤ w → 2 ^ hi - 2 ^ lo < 2 ^ w
-smaller lo hi w h k = let p = pow_pos lo in let q = pow-up hi w k in let r = pow_pos hi in omega arith
-  where
-    pow-up : (a b : ℕ) → a ≤ b → 2 ^ a ≤ 2 ^ b
-    pow-up a b le = elim (cases a b le) [ | inl lt ↦ let p = pow_below a b lt in omega arith | inr e ↦ let f = ap (λ x. 2 ^ x) e in omega arith ]
-      where
-        cases : (a b : ℕ) → a ≤ b → (a < b) ⊎ (a ≡ b)
-        cases a b le = omega arith
+smaller lo hi w h k = let p = pow_pos lo in let q = pow-up hi w k in let r = pow_pos hi in omega (arith, p, q, r)
 
 module _ (S : Signals) (distinct : AreDistinct (all_cells S)) where
   under-name : (q : Cell) (k : ℕ) (el : Option ℕ) → is_cell S q ≡ true → is_cell S (k, el) ≡ true →
@@ -156,13 +160,13 @@ module _ (S : Signals) (distinct : AreDistinct (all_cells S)) where
       inside = λ x t.
           let e = sym (run-has (name_by (signal_at S k).path el) b lo n a x) ∙ t in
           let lt = run-most lo n x.place (and-right _ _ e) in
-          ((k, el), x.place, two-true _ _ h (lt-true x.place (width_of (signal_at S k)) (omega arith)), bit-same x (name_by (signal_at S k).path el) (and-left _ _ e));
+          ((k, el), x.place, two-true _ _ h (lt-true x.place (width_of (signal_at S k)) (omega (arith, lt, fit))), bit-same x (name_by (signal_at S k).path el) (and-left _ _ e));
     };
     each = All-cons (IsSpan S) _ [] (record {
       signal = and-left _ _ h;
       element = λ j e. subst (λ (x : Option ℕ). is_cell S (k, x) ≡ true) e h;
       wide = smaller lo (lo + n) (width_of (signal_at S k)) (omega arith) fit;
-      some = let p = pow_below lo (lo + n) (omega arith) in omega arith;
+      some = let p = pow_below lo (lo + n) (omega arith) in omega (arith, p);
     }) (All-nil (IsSpan S));
   }
 
@@ -201,10 +205,12 @@ module _ (S : Signals) (distinct : AreDistinct (all_cells S)) where
   ]
     where
       parts : (lo i : ℕ) → lo ≤ i → (lo ≡ i) ⊎ (lo < i)
-      parts lo i h = omega arith
+      parts lo i h = elim (cases_lt lo i) [ inl lt ↦ inr lt | inr ge ↦ inl (omega (arith, h, ge)) ]
+
       or-true : (a b : Bool) → a ≡ true → (a || b) ≡ true
       or-true true b h = refl
       or-true false b h = cc
+
       or-last : (a b : Bool) → b ≡ true → (a || b) ≡ true
       or-last true b h = refl
       or-last false b h = h
@@ -236,7 +242,12 @@ module _ (S : Signals) (distinct : AreDistinct (all_cells S)) where
   whole-has : (d : Declared) (x : Bit) → has_bit (whole d) x ≡ (list_any (bytes_eq x.name) (cells d) && in_run 0 (width_of d) x.place)
   whole-has d x = any-cell (width_of d) x (cells d)
 
-  pub whole-span : (k : ℕ) → is_signal_sort (signal_at S k).sort ≡ true → AreSpansOf S (whole (signal_at S k)) (record { signal = k; element = None; mask = 2 ^ (0 + width_of (signal_at S k)) - 2 ^ 0 } ∷ [])
+  pub whole-span : (k : ℕ) → is_signal_sort (signal_at S k).sort ≡ true → AreSpansOf S (whole (signal_at S k)) (record {
+    signal = k;
+    element = None;
+    mask =
+        2 ^ (0 + width_of (signal_at S k)) - 2 ^ 0;
+  } ∷ [])
   whole-span k h =
       let d : Declared = signal_at S k in
       let w : ℕ = width_of d in
@@ -247,22 +258,22 @@ module _ (S : Signals) (distinct : AreDistinct (all_cells S)) where
               (ap (λ u. is_under k None q && u) (mask-has 0 w i) ∙
               (ap (λ u. u && in_run 0 w i) (from-iff (is_under k None q) (list_any (bytes_eq (name_by (signal_at S q.0).path q.1)) (cells d))
               (λ u. let e : q.0 ≡ k = of-eq q.0 k u in
-                  subst (λ (j : ℕ). list_any (bytes_eq (name_by (signal_at S q.0).path q.1)) (cells (signal_at S j)) ≡ true) e
-                  (finds (signal_at S q.0).array (signal_at S q.0).path q.1 (and-right _ _ (and-left _ _ t))))
+              subst (λ (j : ℕ). list_any (bytes_eq (name_by (signal_at S q.0).path q.1)) (cells (signal_at S j)) ≡ true) e
+              (finds (signal_at S q.0).array (signal_at S q.0).path q.1 (and-right _ _ (and-left _ _ t))))
               (λ u. let f = found d.array d.path (name_by (signal_at S q.0).path q.1) u in
-                  let c : is_cell S (k, f.element) ≡ true = two-true _ _ h f.fits in
-                  eq-true q.0 k (ap (λ (x : Cell). x.0) (same-name S distinct q (k, f.element) (and-left _ _ t) c ((bytes_eq-Decides _ _).1 f.same))))) ∙
+              let c : is_cell S (k, f.element) ≡ true = two-true _ _ h f.fits in
+              eq-true q.0 k (ap (λ (x : Cell). x.0) (same-name S distinct q (k, f.element) (and-left _ _ t) c ((bytes_eq-Decides _ _).1 f.same))))) ∙
               sym (whole-has d (bit_of S q i))));
           inside = λ x t.
               let e = sym (whole-has d x) ∙ t in
               let f = found d.array d.path x.name (and-left _ _ e) in
               let lt = run-most 0 w x.place (and-right _ _ e) in
-              ((k, f.element), x.place, two-true _ _ (two-true _ _ h f.fits) (lt-true x.place w (omega arith)), ap (λ m. record { name = m; place = x.place }) (sym f.same));
+              ((k, f.element), x.place, two-true _ _ (two-true _ _ h f.fits) (lt-true x.place w (omega (arith, lt))), ap (λ m. record { name = m; place = x.place }) (sym f.same));
         };
         each = All-cons (IsSpan S) _ [] (record {
           signal = h;
           element = λ j e. cc;
           wide = smaller 0 (0 + w) w (omega arith) (omega arith);
-          some = let p = pow_below 0 (0 + w) (omega arith) in omega arith;
+          some = let p = pow_below 0 (0 + w) (omega arith) in omega (arith, p);
         }) (All-nil (IsSpan S));
       }

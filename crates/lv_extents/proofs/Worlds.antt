@@ -4,13 +4,13 @@ use Rattle.std.specs.Prelude.{if◌then◌else◌, ◌==◌}
 use Rattle.std.proofs.Math.ListN.{get_or-append}
 use Rattle.std.proofs.Math.Seq.{get_or-append_seam}
 use Rattle.lv_bits.specs.Words.{Bits}
-use Rattle.lv_bits.specs.Values.{unary_of, binary_of, extended}
+use Rattle.lv_bits.specs.Values.{unary_of, binary_of}
 use Rattle.lv_const.proofs.WalkReads.{two-same}
 use Rattle.lv_netlist.specs.declared.node.Node.{Node}
 use Rattle.lv_netlist.specs.declared.node.Node.TheVariants.{Input, Reg, Const, Un, Bin, Mux, Slice, Cat, Ext}
 use Rattle.lv_netlist.specs.declared.node.Typed.{Typed}
-use Rattle.lv_netlist.specs.Net.{Net, node_at, width_at, IsRight, IsNet}
-use Rattle.lv_netlist.specs.Run.{no_bits, bits_at, node_bits, values_from, values_of}
+use Rattle.lv_netlist.specs.Net.{Net, node_at, IsRight, IsNet}
+use Rattle.lv_netlist.specs.Run.{bits_at, node_bits, values_from, values_of}
 use Rattle.lv_netlist.specs.Fits.{FitsInputs, FitsState, FitsNodes, AreWords}
 use Rattle.lv_netlist.proofs.Words.{values_fit}
 use Rattle.lv_values.specs.Worlds.{World, Obeys}
@@ -79,10 +79,14 @@ module _ (net : Net) (n : IsNet net) (noin : net.inputs ≡ []) (noreg : net.reg
   abbrev pub world : World
   world = record { state = []; inputs = []; values = values }
 
+  from-none : (k : ℕ) → k ≡ length {A = Bits} [] + k
+  from-none k = omega arith
+
   pub obeys : Obeys net world
   obeys = record {
     values = λ k lt.
-        at [] net.nodes k lt ∙ alike net k (from [] (take k net.nodes)) values (λ j h. prefix [] net.nodes k j h (omega arith)) (node_at net.nodes k).node (n.nodes k lt).right;
+        ap (bits_at values) (from-none k) ∙ (at [] net.nodes k lt ∙ alike net k (from [] (take k net.nodes)) values (λ j h. prefix [] net.nodes k j (omega (arith, h)) (omega (arith, lt)))
+        (node_at net.nodes k).node (n.nodes k lt).right);
     widths = λ k lt. fit.0.widths k lt;
     fits = λ k lt. subst (λ (w : ℕ). (bits_at values k).value < 2 ^ w) (fit.0.widths k lt) (fit.1 k (omega (arith, fit.0.count)));
   }

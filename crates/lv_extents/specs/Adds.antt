@@ -1,13 +1,21 @@
 -- Spans that are added to a list.
-use Rattle.std.specs.Prelude.{◌≡◌, ℕ, zero, suc, ◌+◌, ◌-◌, ◌^◌, ◌≤◌, true, List, [], ◌∷◌, ◌++◌, map, Option}
+use Rattle.std.specs.Prelude.{◌≡◌, ℕ, zero, suc, ◌+◌, ◌-◌, ◌^◌, ◌≤◌, true, List, [], ◌∷◌, ◌++◌, map, Option, Some}
 use Rattle.lv_source.specs.Places.{Bit, count_of}
 use Rattle.lv_source.specs.Meaning.{Choice}
+use Rattle.lv_source.specs.Effect.{Piece}
+use Rattle.lv_flat.specs.declared.stmt.FlatName.{FlatName}
+use Rattle.lv_flat.specs.Executing.{path_at}
 use Rattle.lv_flat.specs.declared.expr.FlatSelect.{FlatSelect}
-use Rattle.lv_flat.specs.Signals.{Signals}
+use Rattle.lv_flat.specs.Signals.{Signals, signal_at}
 use Rattle.lv_flat.specs.Judged.{judge_select, choices}
 use Rattle.lv_values.specs.Windows.{run}
 use Rattle.lv_spans.specs.declared.span.Span.{Span}
 use Rattle.lv_lower_exprs.specs.Named.{chosen_by, is_good_select, is_constant_select}
+use Rattle.lv_source.specs.Views as views
+use Rattle.lv_source.specs.Views.{Seen}
+use Rattle.lv_extents.specs.declared.extent.Aim.{Aim}
+use Rattle.lv_extents.specs.declared.extent.Step.{Step}
+use Rattle.lv_extents.specs.Extents.{Each, IsAim, IsStep}
 use Rattle.lv_spans.specs.Domain.{AreSpansOf}
 
 -- the new spans have the bits of the old ones and these
@@ -41,3 +49,17 @@ AreFixed S (s ∷ ss) = IsFixed S s
 abbrev pub spans_of : ℕ → Option ℕ → ℕ → ℕ → List Span
 spans_of k element low zero = []
 spans_of k element low (suc n) = record { signal = k; element = element; mask = 2 ^ (low + suc n) - 2 ^ low } ∷ []
+
+-- what is new stands for what the old stood for, and for more
+pub record AddsEach {A B : Type 0} (R : A → B → Type 0) (old new : List B) (more : List A) : Type 0 where
+  pub adds : (xs : List A) → Each R xs old → Each R (xs ++ more) new
+
+abbrev pub AddsAims : Signals → List Aim → List Aim → List views.Aim → Type 0
+AddsAims S old new more = AddsEach (IsAim S) old new more
+
+abbrev pub AddsSteps : Signals → List Step → List Step → List Seen → Type 0
+AddsSteps S old new more = AddsEach (IsStep S) old new more
+
+-- a name with selects in a target
+abbrev pub piece_of : Signals → FlatName → List FlatSelect → Piece
+piece_of S name ss = record { path = path_at name.place; declared = Some (signal_at S name.signal); choices = taken S ss }

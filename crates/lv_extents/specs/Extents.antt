@@ -1,5 +1,5 @@
 -- The extent of a part: its view with spans in place of lists of bits.
-use Rattle.std.specs.Prelude.{◌≡◌, ℕ, Bool, true, List, [], ◌∷◌, ◌++◌, flat_map}
+use Rattle.std.specs.Prelude.{◌≡◌, true, List, [], ◌∷◌, ◌++◌, flat_map}
 use Rattle.lv_source.specs.Views.{Seen, View, is_continuous}
 use Rattle.lv_source.specs.Views as views
 use Rattle.lv_source.specs.Summary.{leaves_latch, exposes_own}

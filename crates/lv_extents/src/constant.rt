@@ -32,6 +32,7 @@ pub(crate) fn constant_value(
 {
     let mut b = Builder::new(alloc);
     let r = value(alloc, &mut b, &[], &[], &[], e, width, signed)?;
+    let _ = b.len();
     match r {
         Value::Known(word) => Ok(word.value()),
         Value::Node(_, _) => Ok(0),

@@ -3,7 +3,11 @@
 
 mod constant;
 mod extent;
+mod parts;
 mod reads;
 mod run;
+mod steps;
+mod target;
 
 pub use extent::{Aim, Extent, Step, Way};
+pub use parts::extents;

@@ -1,4 +1,4 @@
-ghost use Rattle.std.specs.Prelude.{◌≡◌, ◌&&◌, ◌++◌, true, map, flat_map, IfOk, OnOk, Bool};
+ghost use Rattle.std.specs.Prelude.{◌≡◌, true, map, flat_map, IfOk, OnOk, Bool};
 ghost use Rattle.std.specs.List.{list_all};
 ghost use Rattle.lv_source.specs.Meaning.{Reading, index_reads, all_constant, parts_of};
 ghost use Rattle.lv_flat.specs.Cells.{AreDistinct, all_cells};
@@ -11,7 +11,7 @@ use crate::run::add_named;
 use lv_bits::NoMemory;
 use lv_flat::{FlatExpr, FlatSelect, Signal};
 use lv_spans::Span;
-use sqlite_items::{Boxed, Items};
+use sqlite_items::Items;
 use std::alloc::Global;
 
 /// Adds the bits that an expression reads, and answers whether it is constant.
@@ -44,21 +44,25 @@ pub(crate) fn add_reads(
             Ok(x)
         }
         FlatExpr::Bin(_, a, b) => {
-            let x = add_two(alloc, signals, a, b, into)?;
-            Ok(x)
+            let x = add_reads(alloc, signals, a.get(), into)?;
+            let y = add_reads(alloc, signals, b.get(), into)?;
+            Ok(x & y)
         }
         FlatExpr::Div(a, b) => {
-            let x = add_two(alloc, signals, a, b, into)?;
-            Ok(x)
+            let x = add_reads(alloc, signals, a.get(), into)?;
+            let y = add_reads(alloc, signals, b.get(), into)?;
+            Ok(x & y)
         }
         FlatExpr::Rem(a, b) => {
-            let x = add_two(alloc, signals, a, b, into)?;
-            Ok(x)
+            let x = add_reads(alloc, signals, a.get(), into)?;
+            let y = add_reads(alloc, signals, b.get(), into)?;
+            Ok(x & y)
         }
         FlatExpr::Cond(c, a, b) => {
             let x = add_reads(alloc, signals, c.get(), into)?;
-            let y = add_two(alloc, signals, a, b, into)?;
-            Ok(x & y)
+            let y = add_reads(alloc, signals, a.get(), into)?;
+            let z = add_reads(alloc, signals, b.get(), into)?;
+            Ok(x & (y & z))
         }
         FlatExpr::Cat(es) => {
             let x = add_all(alloc, signals, es.as_slice(), into)?;
@@ -73,26 +77,6 @@ pub(crate) fn add_reads(
             Ok(x)
         }
     }
-}
-
-/// Adds what two expressions read, and answers whether both are constant.
-#[cycle(reads)]
-fn add_two(
-    alloc: Global,
-    signals: &[Signal],
-    a: &Boxed<FlatExpr>,
-    b: &Boxed<FlatExpr>,
-    into: &mut Items<Span>,
-) -> Result<bool, NoMemory>
-    requires left { is_good (declared_all signals.now) a.now ≡ true }
-    requires right { is_good (declared_all signals.now) b.now ≡ true }
-    requires distinct { AreDistinct (all_cells (declared_all signals.now)) }
-    ensures reads { OnOk result (Adds (declared_all signals.now) into.old into.new ((reading (declared_all signals.now) a.now).reads ++ (reading (declared_all signals.now) b.now).reads)) }
-    ensures constant { IfOk result (λ c. c ≡ ((reading (declared_all signals.now) a.now).constant && (reading (declared_all signals.now) b.now).constant)) }
-{
-    let x = add_reads(alloc, signals, a.get(), into)?;
-    let y = add_reads(alloc, signals, b.get(), into)?;
-    Ok(x & y)
 }
 
 /// Adds what expressions read, and answers whether all are constant.

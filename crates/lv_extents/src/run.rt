@@ -131,16 +131,21 @@ pub(crate) fn add_named(
         return Ok(());
     }
     if !fixed {
-        return add_run(into, k, None, 0, signal_width(signal));
+        add_run(into, k, None, 0, signal_width(signal))?;
+        return Ok(());
     }
     match signal.array {
         None => {
             let run = run_of(alloc, signals, signal, ss)?;
-            add_run(into, k, None, run.0, run.1)
+            add_run(into, k, None, run.0, run.1)?;
+            Ok(())
         }
         Some(_) => match ss {
             [] => Ok(()),
-            [s, rest @ ..] => add_element(alloc, signals, k, s, rest, into),
+            [s, rest @ ..] => {
+                add_element(alloc, signals, k, s, rest, into)?;
+                Ok(())
+            }
         },
     }
 }

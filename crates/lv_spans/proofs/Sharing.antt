@@ -150,10 +150,12 @@ module _ (m : Masks) (s : Span) where
       where
         eq-of : (x y : ℕ) → (x == y) ≡ true → x ≡ y
         eq-of x y g = grind (arith, nat_tests)
+
         touched : q.0 ≡ s.signal → has m q i ≡ true → is_set n i ≡ true
         touched same g = or-split (bit m q i) (bit m (q.0, None) i) (sym (is_set-or (own_at m q) (own_at m (q.0, None)) i) ∙ g)
             (λ x. ap (λ y. is_set y i) f ∙ subst (λ (j : ℕ). is_set (unwrap_or (get nat_cmp t j) 0) i ≡ true) same (a.all q i x))
             (λ x. ap (λ y. is_set y i) f ∙ subst (λ (j : ℕ). is_set (unwrap_or (get nat_cmp t j) 0) i ≡ true) same (a.all (q.0, None) i x))
+
         off : (g : Bool) → has m q i ≡ g → q.0 ≡ s.signal → is_set s.mask i ≡ true → g ≡ false
         off false g same hm = refl
         off true g same hm = clash (is_set n i && is_set s.mask i) (two-true _ _ (touched same g) hm) (none-shared n s.mask i h)

@@ -48,11 +48,14 @@ module _ (S : Signals) where
   abbrev all_pieces : List FlatTarget → List Piece
   all_pieces ts = flat_map (λ (ps : List Piece). ps) (map (pieces S) ts)
 
-  pub aims-more : (ts : List FlatTarget) (i : ℕ) (x : FlatTarget) → i < length ts → x ≡ get_or ts i x → map aim_of (all_pieces (take (i + 1) ts)) ≡ map aim_of (all_pieces (take i ts)) ++ map aim_of (pieces S x)
+  pub aims-more : (ts : List FlatTarget) (i : ℕ) (x : FlatTarget) → i < length ts → x ≡ get_or ts i x →
+      map aim_of (all_pieces (take (i + 1) ts)) ≡ map aim_of (all_pieces (take i ts)) ++ map aim_of (pieces S x)
   aims-more ts i x lt h = ap (map aim_of) (flat-map-more (λ (ps : List Piece). ps) (pieces S) ts i x lt h) ∙ map-append aim_of (all_pieces (take i ts)) (pieces S x)
 
   abbrev reads_of : List Piece → List Bit
   reads_of ps = flat_map (λ (p : Piece). index_reads p.choices) ps
 
-  pub aim-reads-more : (ts : List FlatTarget) (i : ℕ) (x : FlatTarget) → i < length ts → x ≡ get_or ts i x → reads_of (all_pieces (take (i + 1) ts)) ≡ reads_of (all_pieces (take i ts)) ++ reads_of (pieces S x)
-  aim-reads-more ts i x lt h = ap reads_of (flat-map-more (λ (ps : List Piece). ps) (pieces S) ts i x lt h) ∙ flat_map-append (λ (p : Piece). index_reads p.choices) (all_pieces (take i ts)) (pieces S x)
+  pub aim-reads-more : (ts : List FlatTarget) (i : ℕ) (x : FlatTarget) → i < length ts → x ≡ get_or ts i x →
+      reads_of (all_pieces (take (i + 1) ts)) ≡ reads_of (all_pieces (take i ts)) ++ reads_of (pieces S x)
+  aim-reads-more ts i x lt h = ap reads_of (flat-map-more (λ (ps : List Piece). ps) (pieces S) ts i x lt h) ∙ flat_map-append (λ (p : Piece). index_reads p.choices)
+      (all_pieces (take i ts)) (pieces S x)

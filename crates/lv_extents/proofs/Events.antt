@@ -43,11 +43,13 @@ module _ (S : Signals) where
       AddsAims S old new (aim_of (piece_of S name ss) ∷ [])
   aim-adds old new name ss x sort bits sure place e = each-one (IsAim S) old new (aim_of (piece_of S name ss)) x (record { sort = sort; bits = bits; sure = sure; place = place }) e
 
-  pub look-adds : (old new : List Step) (bits : List Bit) (x : Step) → AreSpansOf S bits x.reads → x.aims ≡ [] → x.at_once ≡ true → x.place ≡ 0 → new ≡ old ++ x ∷ [] → AddsSteps S old new (look_at bits ∷ [])
+  pub look-adds : (old new : List Step) (bits : List Bit) (x : Step) → AreSpansOf S bits x.reads → x.aims ≡ [] → x.at_once ≡ true → x.place ≡ 0 → new ≡ old ++ x ∷ [] →
+      AddsSteps S old new (look_at bits ∷ [])
   look-adds old new bits x reads aims once place e = each-one (IsStep S) old new (look_at bits) x
       (record { reads = reads; aims = subst (λ (as' : List Aim). Each (IsAim S) [] as') (sym aims) tt; at_once = once; place = place }) e
 
-  pub write-adds : (old new : List Step) (once : Bool) (ps : List Piece) (r : Reading) (place : ℕ) (x : Step) → AreSpansOf S (r.reads ++ flat_map (λ (p : Piece). index_reads p.choices) ps) x.reads →
+  pub write-adds : (old new : List Step) (once : Bool) (ps : List Piece) (r : Reading) (place : ℕ) (x : Step) → AreSpansOf S (r.reads ++ flat_map (λ (p :
+      Piece). index_reads p.choices) ps) x.reads →
       Each (IsAim S) (map aim_of ps) x.aims → x.at_once ≡ once → x.place ≡ place → new ≡ old ++ x ∷ [] → AddsSteps S old new (map seen_of (write_flow once ps r place).events)
   write-adds old new once ps r place x reads aims o p e = each-one (IsStep S) old new _ x (record { reads = reads; aims = aims; at_once = o; place = p }) e
 
@@ -162,8 +164,10 @@ module _ (S : Signals) where
 
   -- ---- an `if`, put together
 
-  pub if-adds : (x : FlatStmt) (R : List Bit) (p q r s : List Step) (A B : List Seen) → seen x ≡ look_at R ∷ (A ++ B) → AddsSteps S p q (look_at (R ++ []) ∷ []) → AddsSteps S q r A → AddsSteps S r s B → AddsSteps S p s (seen x)
+  pub if-adds : (x : FlatStmt) (R : List Bit) (p q r s : List Step) (A B : List Seen) → seen x ≡ look_at R ∷ (A ++ B) → AddsSteps S p q (look_at (R ++ []) ∷ []) → AddsSteps S q r A →
+      AddsSteps S r s B → AddsSteps S p s (seen x)
   if-adds x R p q r s A B e l a b' = each-as (IsStep S) p s _ _ (e ∙ ap (λ bs. look_at bs ∷ (A ++ B)) (sym (append-nil R))) (each-then (IsStep S) l (each-then (IsStep S) a b'))
 
-  pub if-adds-one : (x : FlatStmt) (R : List Bit) (p q r : List Step) (A : List Seen) → seen x ≡ look_at R ∷ (A ++ []) → AddsSteps S p q (look_at (R ++ []) ∷ []) → AddsSteps S q r A → AddsSteps S p r (seen x)
+  pub if-adds-one : (x : FlatStmt) (R : List Bit) (p q r : List Step) (A : List Seen) → seen x ≡ look_at R ∷ (A ++ []) → AddsSteps S p q (look_at (R ++ []) ∷ []) → AddsSteps S q r A →
+      AddsSteps S p r (seen x)
   if-adds-one x R p q r A e l a = if-adds x R p q r r A [] e l a (each-none (IsStep S) r)

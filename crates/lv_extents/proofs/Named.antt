@@ -83,12 +83,14 @@ module _ (S : Signals) where
       true-of true h = refl
       true-of false h = cc
 
-  pub first-fixed : (d : Declared) (b : Bounds) (x : FlatSelect) (xs : List FlatSelect) → d.array ≡ Some b → good_selects d (map (judge_select S) (x ∷ xs)) ≡ true → all_constant (taken S (x ∷ xs)) ≡ true → IsFixed S x
+  pub first-fixed : (d : Declared) (b : Bounds) (x : FlatSelect) (xs : List FlatSelect) → d.array ≡ Some b → good_selects d (map (judge_select S) (x ∷ xs)) ≡ true →
+      all_constant (taken S (x ∷ xs)) ≡ true → IsFixed S x
   first-fixed d b x xs e g k =
       let c = bit-first d b x xs e g in
       record { good = and-left _ _ (goods d (x ∷ xs) g); constant = and-left _ _ k; some = omega (arith, c); most = omega (arith, c) }
 
-  pub rest-fixed : (d : Declared) (b : Bounds) (x : FlatSelect) (xs : List FlatSelect) → d.array ≡ Some b → good_selects d (map (judge_select S) (x ∷ xs)) ≡ true → all_constant (taken S (x ∷ xs)) ≡ true → AreFixed S xs
+  pub rest-fixed : (d : Declared) (b : Bounds) (x : FlatSelect) (xs : List FlatSelect) → d.array ≡ Some b → good_selects d (map (judge_select S) (x ∷ xs)) ≡ true →
+      all_constant (taken S (x ∷ xs)) ≡ true → AreFixed S xs
   rest-fixed d b x [] e g k = tt
   rest-fixed d b x (y ∷ ys) e g k = fixed y ys d.bounds (and-right _ _ (goods d (x ∷ y ∷ ys) g)) (and-right _ _ k) (and-left _ _ (steps d (x ∷ y ∷ ys) (Some b) e g))
 
@@ -117,7 +119,8 @@ module _ (S : Signals) where
       place_by (Some b) d (x ∷ xs) nowhere ≡ record { name = at_index d.path (decimal i); bits = bits_of d xs nowhere }
   element-in d b x xs i e p q =
       ap (λ z. element d b z xs nowhere) e ∙
-      ap (λ (c : Bool). if c then (let p : Place = record { name = at_index d.path (decimal i); bits = bits_of d xs nowhere } in p) else nowhere_place (bits_of d xs nowhere)) (inside-true (low b) (high b) i p q)
+      ap (λ (c : Bool). if c then (let p : Place = record { name = at_index d.path (decimal i); bits = bits_of d xs nowhere } in p) else nowhere_place (bits_of d xs nowhere))
+      (inside-true (low b) (high b) i p q)
     where
       inside-true : (l h i : ℕ) → l ≤ i → i ≤ h → within l h i ≡ true
       inside-true l h i p q = let a : nat_lt i l ≡ false = grind (arith, nat_tests) in let c : nat_lt h i ≡ false = grind (arith, nat_tests) in rw a (rw c refl)
@@ -128,7 +131,8 @@ module _ (S : Signals) where
       ap (λ (c : Bool). place_bits (if c then (let p : Place = record { name = at_index d.path (decimal i); bits = bits_of d xs nowhere } in p) else nowhere_place (bits_of d xs nowhere))) h ∙
       nowhere-none [] (bits_of d xs nowhere)
 
-  pub element-out : (d : Declared) (b : Bounds) (x : Chosen) (xs : List Chosen) (i : ℕ) → lowest x nowhere ≡ pos i → (low b ≤ i → i ≤ high b → ⊥) → place_bits (place_by (Some b) d (x ∷ xs) nowhere) ≡ []
+  pub element-out : (d : Declared) (b : Bounds) (x : Chosen) (xs : List Chosen) (i : ℕ) → lowest x nowhere ≡ pos i → (low b ≤ i → i ≤ high b → ⊥) →
+      place_bits (place_by (Some b) d (x ∷ xs) nowhere) ≡ []
   element-out d b x xs i e n = ap (λ z. place_bits (element d b z xs nowhere)) e ∙
       outside d b xs i (within (low b) (high b) i) refl (λ t. n (least (low b) (high b) i t) (most (low b) (high b) i t))
     where
@@ -152,7 +156,8 @@ module _ (S : Signals) where
       subst (λ ks. AreSpansOf S (place_bits (record { name = name_by (signal_at S k).path el; bits = ks })) (spans_of k el low (suc n))) (sym r.is)
       (one-span S distinct k el r.before low (suc n) r.after h (omega arith) r.most)
 
-  adds-run : AreDistinct (all_cells S) → (old new : List Span) (k : ℕ) (el : Option ℕ) (bits : List (Option ℕ)) (low n : ℕ) → is_cell S (k, el) ≡ true → IsRun bits (width_of (signal_at S k)) low n →
+  adds-run : AreDistinct (all_cells S) → (old new : List Span) (k : ℕ) (el : Option ℕ) (bits : List (Option ℕ)) (low n : ℕ) → is_cell S (k, el) ≡ true →
+      IsRun bits (width_of (signal_at S k)) low n →
       new ≡ old ++ spans_of k el low n → Adds S old new (place_bits (record { name = name_by (signal_at S k).path el; bits = bits }))
   adds-run distinct old new k el bits low n h r e =
       subst (λ (x : List Span). Adds S old x (place_bits (record { name = name_by (signal_at S k).path el; bits = bits }))) (sym e)
@@ -174,7 +179,8 @@ module _ (S : Signals) where
   some-spans k el low zero h = absurd (omega (arith, h))
   some-spans k el low (suc n) h = refl
 
-  pub adds-whole : AreDistinct (all_cells S) → (old new : List Span) (k w : ℕ) (cs : List Choice) → is_signal_sort (signal_at S k).sort ≡ true → all_constant cs ≡ false → w ≡ width_of (signal_at S k) →
+  pub adds-whole : AreDistinct (all_cells S) → (old new : List Span) (k w : ℕ) (cs : List Choice) → is_signal_sort (signal_at S k).sort ≡ true → all_constant cs ≡ false →
+      w ≡ width_of (signal_at S k) →
       new ≡ old ++ spans_of k None 0 w → Adds S old new (bits_named (signal_at S k) cs)
   adds-whole distinct old new k w cs h c e f =
       adds-same old new (bits_named (signal_at S k) cs) (whole (signal_at S k)) (named-whole (signal_at S k) cs h c)
@@ -182,13 +188,16 @@ module _ (S : Signals) where
       (adds-spans S old (spans_of k None 0 (width_of (signal_at S k))) (whole (signal_at S k))
       (subst (λ (x : List Span). AreSpansOf S (whole (signal_at S k)) x) (sym (some-spans k None 0 (width_of (signal_at S k)) (omega arith))) (whole-span S distinct k h))))
 
-  pub adds-scalar : AreDistinct (all_cells S) → (old new : List Span) (k low n : ℕ) (ss : List FlatSelect) → is_signal_sort (signal_at S k).sort ≡ true → (signal_at S k).array ≡ None → all_constant (taken S ss) ≡ true →
-      IsRun (bits_of (signal_at S k) (map (chosen_by S) ss) nowhere) (width_of (signal_at S k)) low n → new ≡ old ++ spans_of k None low n → Adds S old new (bits_named (signal_at S k) (taken S ss))
+  pub adds-scalar : AreDistinct (all_cells S) → (old new : List Span) (k low n : ℕ) (ss : List FlatSelect) → is_signal_sort (signal_at S k).sort ≡ true → (signal_at S k).array ≡ None →
+      all_constant (taken S ss) ≡ true →
+      IsRun (bits_of (signal_at S k) (map (chosen_by S) ss) nowhere) (width_of (signal_at S k)) low n → new ≡ old ++ spans_of k None low n → Adds S old new (bits_named (signal_at S k)
+      (taken S ss))
   adds-scalar distinct old new k low n ss h a c r e =
       adds-same old new (bits_named (signal_at S k) (taken S ss)) _ (named-fixed (signal_at S k) ss None a h c)
       (adds-run distinct old new k None (bits_of (signal_at S k) (map (chosen_by S) ss) nowhere) low n (cell-scalar k h a) r e)
 
-  pub adds-element : AreDistinct (all_cells S) → (old new : List Span) (k i lo n : ℕ) (b : Bounds) (x : Chosen) (xs : List Chosen) → is_signal_sort (signal_at S k).sort ≡ true → (signal_at S k).array ≡ Some b →
+  pub adds-element : AreDistinct (all_cells S) → (old new : List Span) (k i lo n : ℕ) (b : Bounds) (x : Chosen) (xs : List Chosen) → is_signal_sort (signal_at S k).sort ≡ true →
+      (signal_at S k).array ≡ Some b →
       lowest x nowhere ≡ pos i → low b ≤ i → i ≤ high b → IsRun (bits_of (signal_at S k) xs nowhere) (width_of (signal_at S k)) lo n → new ≡ old ++ spans_of k (Some i) lo n →
       Adds S old new (place_bits (place_by (Some b) (signal_at S k) (x ∷ xs) nowhere))
   adds-element distinct old new k i lo n b x xs h a z p q r e =

@@ -90,7 +90,8 @@ module _ (S : Signals) where
   pub block-reads : (es : List Event) (xs : List Step) → Each (IsStep S) (map seen_of es) xs → AreSpansOf S (flat_map (λ (e : Event). e.reads) es) (step_spans xs)
   block-reads es xs h = subst (λ bs. AreSpansOf S bs (step_spans xs)) (seen-reads es) (steps-spans (map seen_of es) xs h)
 
-  pub block-aims : (es : List Event) (xs : List Step) → Each (IsStep S) (map seen_of es) xs → Each (IsAim S) (map aim_of (flat_map (λ (e : Event). e.targets) es)) (flat_map (λ (s : Step). s.aims) xs)
+  pub block-aims : (es : List Event) (xs : List Step) → Each (IsStep S) (map seen_of es) xs → Each (IsAim S) (map aim_of (flat_map (λ (e : Event). e.targets) es)) (flat_map (λ (s :
+      Step). s.aims) xs)
   block-aims es xs h = subst (λ as'. Each (IsAim S) as' (flat_map (λ (s : Step). s.aims) xs)) (seen-targets es) (steps-aims (map seen_of es) xs h)
 
   -- ---- an assignment
@@ -145,7 +146,8 @@ module _ (S : Signals) where
   }
 
   module _ (fp : FlatPart) (e : Extent) (path : e.path ≡ fp.path) (place : e.place ≡ fp.place) (clocks : e.clocks ≡ fp.clocks) where
-    pub block-extent : (s : FlatStmt) → IsBlock fp.body s → way_of e.way ≡ flat.way_of S fp.body → Each (IsStep S) (map seen_of (flow S s).events) e.steps → e.drives ≡ step_aim_spans e.steps → e.reads ≡ step_spans e.steps →
+    pub block-extent : (s : FlatStmt) → IsBlock fp.body s → way_of e.way ≡ flat.way_of S fp.body → Each (IsStep S) (map seen_of (flow S s).events) e.steps →
+        e.drives ≡ step_aim_spans e.steps → e.reads ≡ step_spans e.steps →
         e.aims ≡ [] → e.latch ≡ leaves_latch (summary S s) → e.exposed ≡ exposes_own (summary S s) → IsExtent S (flat_view S fp) e
     block-extent s is way steps drives reads aims latch exposed =
         let h = blocked fp.body s is in
@@ -157,7 +159,8 @@ module _ (S : Signals) where
           drives = subst (λ bs. AreSpansOf S bs e.drives) (sym h.drives) (subst (λ xs. AreSpansOf S (block_writes (flow S s)) xs) (sym drives) (block-drives (flow S s).events e.steps steps));
           reads = subst (λ bs. AreSpansOf S bs e.reads) (sym h.reads) (subst (λ xs. AreSpansOf S (block_reads (flow S s)) xs) (sym reads) (block-reads (flow S s).events e.steps steps));
           aims = subst (λ (ps : List Piece). Each (IsAim S) (map aim_of ps) (all_aims e)) (sym h.targets)
-              (subst (λ (as' : List Aim). Each (IsAim S) (map aim_of (flat_map (λ (e : Event). e.targets) (flow S s).events)) (as' ++ flat_map (λ (s : Step). s.aims) e.steps)) (sym aims) (block-aims (flow S s).events e.steps steps));
+              (subst (λ (as' : List Aim). Each (IsAim S) (map aim_of (flat_map (λ (e : Event). e.targets) (flow S s).events)) (as' ++ flat_map (λ (s : Step). s.aims) e.steps)) (sym aims)
+              (block-aims (flow S s).events e.steps steps));
           steps = subst (λ (es : List Event). Each (IsStep S) (map seen_of es) e.steps) (sym h.events) steps;
           latch = latch ∙ sym (ap leaves_latch h.paths);
           exposed = exposed ∙ sym (ap exposes_own h.paths);

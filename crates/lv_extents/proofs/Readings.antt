@@ -160,11 +160,13 @@ module _ (S : Signals) where
   abbrev J : FlatSelect → JudgedSelect
   J x = judge_select S x
 
-  pub index-more : (ss : List FlatSelect) (i : ℕ) (x : FlatSelect) → i < length ss → x ≡ get_or ss i x → index_reads (taken S (take (i + 1) ss)) ≡ index_reads (taken S (take i ss)) ++ select_reads x
+  pub index-more : (ss : List FlatSelect) (i : ℕ) (x : FlatSelect) → i < length ss → x ≡ get_or ss i x →
+      index_reads (taken S (take (i + 1) ss)) ≡ index_reads (taken S (take i ss)) ++ select_reads x
   index-more ss i x lt h =
       ap (λ xs. index_reads (taken S xs)) (taken-more ss i x lt h) ∙ (ap (λ cs. index_reads (map (λ (c : JudgedSelect). c.choice) cs)) (map-snoc J (take i ss) x) ∙
       (ap index_reads (map-snoc (λ (c : JudgedSelect). c.choice) (map J (take i ss)) (J x)) ∙
-      (flat_map-append (λ (c : Choice). flat_map (λ (r : Reading). r.reads) (parts_of c)) (taken S (take i ss)) ((J x).choice ∷ []) ∙ ap (λ bs. index_reads (taken S (take i ss)) ++ bs) (append-nil (select_reads x)))))
+      (flat_map-append (λ (c : Choice). flat_map (λ (r : Reading). r.reads) (parts_of c)) (taken S (take i ss)) ((J x).choice ∷ []) ∙ ap (λ bs. index_reads (taken S (take i ss)) ++ bs)
+      (append-nil (select_reads x)))))
 
   pub index-constant-more : (ss : List FlatSelect) (i : ℕ) (x : FlatSelect) → i < length ss → x ≡ get_or ss i x →
       all_constant (taken S (take (i + 1) ss)) ≡ (all_constant (taken S (take i ss)) && select_constant x)

@@ -242,7 +242,12 @@ module _ (S : Signals) (distinct : AreDistinct (all_cells S)) where
   whole-has : (d : Declared) (x : Bit) → has_bit (whole d) x ≡ (list_any (bytes_eq x.name) (cells d) && in_run 0 (width_of d) x.place)
   whole-has d x = any-cell (width_of d) x (cells d)
 
-  pub whole-span : (k : ℕ) → is_signal_sort (signal_at S k).sort ≡ true → AreSpansOf S (whole (signal_at S k)) (record { signal = k; element = None; mask = 2 ^ (0 + width_of (signal_at S k)) - 2 ^ 0 } ∷ [])
+  pub whole-span : (k : ℕ) → is_signal_sort (signal_at S k).sort ≡ true → AreSpansOf S (whole (signal_at S k)) (record {
+    signal = k;
+    element = None;
+    mask =
+        2 ^ (0 + width_of (signal_at S k)) - 2 ^ 0;
+  } ∷ [])
   whole-span k h =
       let d : Declared = signal_at S k in
       let w : ℕ = width_of d in

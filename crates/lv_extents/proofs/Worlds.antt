@@ -85,7 +85,8 @@ module _ (net : Net) (n : IsNet net) (noin : net.inputs ≡ []) (noreg : net.reg
   pub obeys : Obeys net world
   obeys = record {
     values = λ k lt.
-        ap (bits_at values) (from-none k) ∙ (at [] net.nodes k lt ∙ alike net k (from [] (take k net.nodes)) values (λ j h. prefix [] net.nodes k j (omega (arith, h)) (omega (arith, lt))) (node_at net.nodes k).node (n.nodes k lt).right);
+        ap (bits_at values) (from-none k) ∙ (at [] net.nodes k lt ∙ alike net k (from [] (take k net.nodes)) values (λ j h. prefix [] net.nodes k j (omega (arith, h)) (omega (arith, lt)))
+        (node_at net.nodes k).node (n.nodes k lt).right);
     widths = λ k lt. fit.0.widths k lt;
     fits = λ k lt. subst (λ (w : ℕ). (bits_at values k).value < 2 ^ w) (fit.0.widths k lt) (fit.1 k (omega (arith, fit.0.count)));
   }

@@ -21,5 +21,6 @@ returns c =
     let aims = each-from (IsAim S) c.new-aims.result _ _ c.new-aims.ensures c.in_ok-add_aims.ensures.aims in
     assign-extent S c.args.p.now _ c.in_ok-path.ensures refl (c.in_ok-clocks.ensures ∙ c.as_slice-2.ensures) c.args.t.now c.args.x.now c.requires.is refl
     (subst (λ (xs : List Span). AreSpansOf S (writes_of (pieces S c.args.t.now)) xs)
-    (sym (c.in_ok-add_bits.ensures ∙ (ap (λ (xs : List Span). xs ++ aim_spans c.as_slice.result.now) c.new-drives.ensures ∙ ap aim_spans c.as_slice.ensures))) (assign-drives S (pieces S c.args.t.now) _ aims))
+    (sym (c.in_ok-add_bits.ensures ∙ (ap (λ (xs : List Span). xs ++ aim_spans c.as_slice.result.now) c.new-drives.ensures ∙ ap aim_spans c.as_slice.ensures)))
+    (assign-drives S (pieces S c.args.t.now) _ aims))
     (adds-from S c.new-reads.result _ _ c.new-reads.ensures (adds-then S c.in_ok-add_reads.ensures.reads c.in_ok-add_aims.ensures.reads)) aims c.new.ensures refl refl c.in_ok-twice.ensures

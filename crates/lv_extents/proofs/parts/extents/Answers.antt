@@ -23,7 +23,8 @@ loop-p-preserved c =
     let S = declared_all c.args.flat.now.signals in
     let e = subst (λ (ss : List Signal). IsExtent (declared_all ss) (flat_view (declared_all ss) c.p-item.result) c.in_ok-e.e) c.as_slice-signals.ensures c.in_ok-e.ensures in
     let m = map-more (flat_view S) c.as_slice-p-items.result.now c.loop-p.p-index c.p-item.result c.loop-p-test.true c.p-item.is in
-    let n = sym (ap (λ (ps : List FlatPart). map (flat_view S) (take (c.loop-p.p-index + 1) ps)) c.as_slice-p-items.ensures) ∙ (m ∙ ap (λ (ps : List FlatPart). map (flat_view S) (take c.loop-p.p-index ps) ++ flat_view S c.p-item.result ∷ []) c.as_slice-p-items.ensures) in
+    let n = sym (ap (λ (ps : List FlatPart). map (flat_view S) (take (c.loop-p.p-index + 1) ps)) c.as_slice-p-items.ensures) ∙ (m ∙ ap (λ (ps : List FlatPart). map (flat_view S)
+    (take c.loop-p.p-index ps) ++ flat_view S c.p-item.result ∷ []) c.as_slice-p-items.ensures) in
     subst (λ (vs : List View). Each (IsExtent S) vs c.push.new.self) (sym n)
     (subst (λ (xs : List Extent). Each (IsExtent S) (map (flat_view S) (take c.loop-p.p-index c.args.flat.now.parts) ++ flat_view S c.p-item.result ∷ []) xs) (sym c.in_ok-push.ensures.ok)
     (each-snoc (IsExtent S) (map (flat_view S) (take c.loop-p.p-index c.args.flat.now.parts)) c.loop-p.all (flat_view S c.p-item.result) c.in_ok-e.e c.loop-p.invariant e))

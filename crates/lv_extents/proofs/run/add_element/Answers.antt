@@ -20,7 +20,8 @@ returns-in_ok-add_run c = λ b e.
     let h = ap high same in
     let p : low b ≤ c.in-Above.i = grind (arith, nat_tests, l, c.min.ensures, c.from.ensures, c.if-from-i.true) in
     let q : c.in-Above.i ≤ high b = grind (arith, nat_tests, h, c.max.ensures, c.from-then-from-i.ensures, c.if-i-from.true) in
-    adds-element S c.requires.distinct c.args.into.now c.add_run.new.into c.args.k c.in-Above.i c.in_ok-run.run'.0 c.in_ok-run.run'.1 b (chosen_by S c.args.s.now) (map (chosen_by S) c.args.rest.now) c.requires.signal e
+    adds-element S c.requires.distinct c.args.into.now c.add_run.new.into c.args.k c.in-Above.i c.in_ok-run.run'.0 c.in_ok-run.run'.1 b (chosen_by S c.args.s.now)
+    (map (chosen_by S) c.args.rest.now) c.requires.signal e
     (sym c.in_ok-z.ensures ∙ ap integer c.in-Above.is) p q
     (subst (λ d. IsRun (bits_of d (map (chosen_by S) c.args.rest.now) nowhere) (width_of d) c.in_ok-run.run'.0 c.in_ok-run.run'.1) (sym c.signal_of-signal.ensures) c.in_ok-run.ensures.run)
     c.in_ok-add_run.ensures

@@ -23,7 +23,8 @@ returns-then-not-fixed c =
 pub run_of-requires : goal.run_of-requires
 run_of-requires c =
     let S = declared_all c.args.signals.now in
-    scalar-fixed S (signal_at S c.args.k) c.args.ss.now (ap (λ (d : Declared). d.array) c.signal_of-signal.ensures ∙ ap bounds_of c.in-None.is) c.requires.good (sym c.requires.fixed ∙ c.if-not-fixed.false)
+    scalar-fixed S (signal_at S c.args.k) c.args.ss.now (ap (λ (d : Declared). d.array) c.signal_of-signal.ensures ∙ ap bounds_of c.in-None.is) c.requires.good (sym c.requires.fixed ∙
+    c.if-not-fixed.false)
 
 pub add_element-requires-clause-fixed : goal.add_element-requires-clause-fixed
 add_element-requires-clause-fixed c =
@@ -43,7 +44,8 @@ returns-in_ok-add_run-in-None c =
     ap (λ (d : Declared). is_signal_sort d.sort) c.signal_of-signal.ensures ∙ signal-sort c.signal_of-signal.result.now.sort (sym c.is_clock.ensures ∙ c.if-is_clock.false) in
     adds-scalar S c.requires.distinct c.args.into.now c.add_run-in-None.new.into c.args.k c.in_ok-run-in-None.run'.0 c.in_ok-run-in-None.run'.1 c.args.ss.now sort
     (ap (λ (d : Declared). d.array) c.signal_of-signal.ensures ∙ ap bounds_of c.in-None.is) (sym c.requires.fixed ∙ c.if-not-fixed.false)
-    (subst (λ d. IsRun (bits_of d (map (chosen_by S) c.args.ss.now) nowhere) (width_of d) c.in_ok-run-in-None.run'.0 c.in_ok-run-in-None.run'.1) (sym c.signal_of-signal.ensures) c.in_ok-run-in-None.ensures.run)
+    (subst (λ d. IsRun (bits_of d (map (chosen_by S) c.args.ss.now) nowhere) (width_of d) c.in_ok-run-in-None.run'.0 c.in_ok-run-in-None.run'.1)
+    (sym c.signal_of-signal.ensures) c.in_ok-run-in-None.ensures.run)
     c.in_ok-add_run-in-None.ensures
 
 pub returns-in_ok-add_element-in-len1-up : goal.returns-in_ok-add_element-in-len1-up

@@ -11,7 +11,9 @@ pub returns-in-Some-clause-apart : goal.returns-in-Some-clause-apart
 returns-in-Some-clause-apart c = λ h q i. apart-one c.args.self.now c.args.span c.in-Some.field-0 c.mask.result c.in-Some.is (search rules) h q i
 
 pub returns-in-None-clause-meet : goal.returns-in-None-clause-meet
-returns-in-None-clause-meet c = λ h S w p. meet-all c.args.self.now c.args.span c.self.inside.touched (subst (λ (m : Masks). AreTouched m c.self.inside.touched) c.self.view_is c.self.invariant) c.touched_mask.result c.in-None.is (search rules) h S w p
+returns-in-None-clause-meet c = λ h S w p. meet-all c.args.self.now c.args.span c.self.inside.touched (subst (λ (m :
+    Masks). AreTouched m c.self.inside.touched) c.self.view_is c.self.invariant) c.touched_mask.result c.in-None.is (search rules) h S w p
 
 pub returns-in-None-clause-apart : goal.returns-in-None-clause-apart
-returns-in-None-clause-apart c = λ h q i. apart-all c.args.self.now c.args.span c.self.inside.touched (subst (λ (m : Masks). AreTouched m c.self.inside.touched) c.self.view_is c.self.invariant) c.touched_mask.result c.in-None.is (search rules) h q i
+returns-in-None-clause-apart c = λ h q i. apart-all c.args.self.now c.args.span c.self.inside.touched (subst (λ (m :
+    Masks). AreTouched m c.self.inside.touched) c.self.view_is c.self.invariant) c.touched_mask.result c.in-None.is (search rules) h q i

@@ -1,5 +1,6 @@
 -- The places of a target, name after name.
-use Rattle.std.proofs.Common.{◌≡◌, ℕ, ◌+◌, ◌-◌, ◌<◌, ◌≤◌, Bool, true, List, [], ◌∷◌, ◌++◌, length, map, take, drop, get_or, add-one, refl, sym, ◌∙◌, ap, subst, arith, append_assoc, Option, Some, None, ℤ, pos}
+use Rattle.std.proofs.Common.{◌≡◌, ℕ, ◌+◌, ◌-◌, ◌<◌, ◌≤◌, Bool, true, List, [], ◌∷◌, ◌++◌, length, map, take, drop, get_or, add-one, refl, sym, ◌∙◌, ap, subst, arith, append_assoc, Option, Some}
+use Rattle.std.proofs.Common.{None, ℤ, pos}
 use Rattle.std.specs.Prelude.{zero, suc, sum_by, ◌-ℤ◌}
 use Rattle.std.proofs.Math.Seq.{take-suc}
 use Rattle.std.proofs.lemmas.List.{map-append, append-nil}
@@ -26,7 +27,8 @@ use Rattle.lv_lower_exprs.specs.Named.{chosen_by}
 use Rattle.lv_lower_exprs.proofs.Naming.{chosen-map}
 use Rattle.lv_lower_blocks.specs.declared.aims.Spot.{Spot}
 use Rattle.lv_lower_blocks.specs.declared.aims.Aim.{Aim}
-use Rattle.lv_lower_blocks.specs.Aimed.{Span, spot_number, span_of, first_span, aim_place, spot_width, chosen_width, aim_width, IsSpotIn, IsSpot, IsElement, IsAim, AreAims, Begins, Spots, Names, Aims, pieces_all}
+use Rattle.lv_lower_blocks.specs.Aimed.{Span, spot_number, span_of, first_span, aim_place, spot_width, chosen_width, aim_width, IsSpotIn, IsSpot, IsElement, IsAim, AreAims, Begins, Spots, Names}
+use Rattle.lv_lower_blocks.specs.Aimed.{Aims, pieces_all}
 use Rattle.lv_lower_blocks.proofs.Spans.{SameElement, place-is, named-count, chosen-some, chosen-most}
 
 -- ---- a longer graph
@@ -133,7 +135,8 @@ module _ {cells : List Cell} {table : List ℕ} where
   module _ (S : Signals) (k : ℕ) (xs : List Chosen) (sort : is_declared_sort (signal_at S k).sort ≡ true) (some : 1 ≤ width_of (signal_at S k)) (most : width_of (signal_at S k) ≤ 128)
       (least : 1 ≤ chosen_width 1 (bit_selects (signal_at S k).array xs)) (fits : chosen_width 1 (bit_selects (signal_at S k).array xs) ≤ 128) where
     -- an aim from its selects
-    names-of : {old new : Net} (element bits : Option Spot) → Grows old new → IsElement (signal_at S k).array element → IsSpot new element → IsSpot new bits → ((W : ℕ) → spot_width W bits ≡ chosen_width W (bit_selects (signal_at S k).array xs)) →
+    names-of : {old new : Net} (element bits : Option Spot) → Grows old new → IsElement (signal_at S k).array element → IsSpot new element → IsSpot new bits → ((W : ℕ) →
+        spot_width W bits ≡ chosen_width W (bit_selects (signal_at S k).array xs)) →
         ((w : World) (v : Valuation) → Obeys new w → Shows w cells table v → SameElement (signal_at S k) v (signal_at S k).array (span_of w element) (first_span v xs)) →
         ((w : World) (v : Valuation) → Obeys new w → Shows w cells table v → span_of w bits ≡ first_span v (bit_selects (signal_at S k).array xs)) →
         Names old new S cells table k xs (record { signal = k; element = element; bits = bits })
@@ -149,10 +152,12 @@ module _ {cells : List Cell} {table : List ℕ} where
         }
 
     -- that is no array
-    pub names-plain : {old new : Net} {bits : Option Spot} → (signal_at S k).array ≡ None → Spots old new cells table bits xs → Names old new S cells table k xs (record { signal = k; element = None; bits = bits })
+    pub names-plain : {old new : Net} {bits : Option Spot} → (signal_at S k).array ≡ None → Spots old new cells table bits xs →
+        Names old new S cells table k xs (record { signal = k; element = None; bits = bits })
     names-plain {bits = bits} h a =
         let r : bit_selects (signal_at S k).array xs ≡ xs = plain_rest (signal_at S k).array xs h in
-        names-of None bits a.grows (plain_element (signal_at S k).array h) tt a.good (λ W. a.wide W ∙ ap (chosen_width W) (sym r)) (λ w v o t. plain_same (signal_at S k) (signal_at S k).array v None (first_span v xs) h)
+        names-of None bits a.grows (plain_element (signal_at S k).array h) tt a.good (λ W. a.wide W ∙ ap (chosen_width W) (sym r)) (λ w v o t. plain_same (signal_at S k)
+        (signal_at S k).array v None (first_span v xs) h)
         (λ w v o t. a.is w v o t ∙ ap (first_span v) (sym r))
 
   -- of an array
@@ -173,7 +178,8 @@ module _ {cells : List Cell} {table : List ℕ} where
   pub aims-none : (net : Net) (S : Signals) (as' : List Aim) → AreAims net S as' → Aims net net S cells table [] as' as'
   aims-none net S as' h = record { grows = grows-refl net; good = h; width = omega arith; is = λ w v o t. sym (append-nil (map (aim_place w S) as')) }
 
-  pub aims-then : {old mid new : Net} {S : Signals} {ps qs : List Piece} {as' bs cs : List Aim} → Aims old mid S cells table ps as' bs → Aims mid new S cells table qs bs cs → Aims old new S cells table (ps ++ qs) as' cs
+  pub aims-then : {old mid new : Net} {S : Signals} {ps qs : List Piece} {as' bs cs : List Aim} → Aims old mid S cells table ps as' bs → Aims mid new S cells table qs bs cs →
+      Aims old new S cells table (ps ++ qs) as' cs
   aims-then {old} {mid} {new} {S} {ps} {qs} {as'} {bs} {cs} a c =
       let n : bits_in (places nowhere (ps ++ qs)) ≡ bits_in (places nowhere ps) + bits_in (places nowhere qs) =
       ap bits_in (map-append (piece_place nowhere) ps qs) ∙ bits-append (places nowhere ps) (places nowhere qs) in
@@ -190,7 +196,8 @@ module _ {cells : List Cell} {table : List ℕ} where
   aims-same {old} {new} {S} {as' = as'} {bs = bs} a e = subst (λ (z : List Piece). Aims old new S cells table z as' bs) e a
 
   -- a name more
-  pub aims-more : {old new : Net} (S : Signals) (name : FlatName) (ss : List FlatSelect) (as' : List Aim) (a : Aim) → AreAims old S as' → Names old new S cells table name.signal (map (chosen_by S) ss) a →
+  pub aims-more : {old new : Net} (S : Signals) (name : FlatName) (ss : List FlatSelect) (as' : List Aim) (a : Aim) → AreAims old S as' →
+      Names old new S cells table name.signal (map (chosen_by S) ss) a →
       Aims old new S cells table (piece_of S name ss ∷ []) as' (as' ++ a ∷ [])
   aims-more {old} {new} S name ss as' a good h =
       let d : Declared = signal_at S name.signal in
@@ -201,7 +208,8 @@ module _ {cells : List Cell} {table : List ℕ} where
       record {
         grows = h.grows;
         good = All-push (IsAim new S) as' a (aims-later as' h.grows good) h.good;
-        width = sum_by_push (aim_width S) as' a ∙ (let b : bits_in (places nowhere (piece_of S name ss ∷ [])) ≡ length (piece_place nowhere (piece_of S name ss)).bits = omega arith in omega (arith, b, l, h.wide));
+        width = sum_by_push (aim_width S) as' a ∙ (let b : bits_in (places nowhere (piece_of S name ss ∷ [])) ≡ length (piece_place nowhere (piece_of S name ss)).bits = omega arith in omega
+            (arith, b, l, h.wide));
         is = λ w v o t. map-append (aim_place w S) as' (a ∷ []) ∙ ap (λ (q : Place). map (aim_place w S) as' ++ q ∷ []) (h.is w v o t ∙ sym (p v));
       }
 

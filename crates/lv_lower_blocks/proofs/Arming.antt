@@ -54,7 +54,8 @@ first-at fits (a ∷ arms) d s =
     if-apply u a.body (first_fit fits arms (λ st. d s)) s ∙ (ap (λ (z : State). if u then a.body s else z) (first-at fits arms d s) ∙ sym (if-apply u a.body (first_fit fits arms d) s))
 
 -- what a `case` does
-pub case-keeps : (S : Signals) (x : FlatStmt) (wild : Bool) (e : FlatExpr) (arms : List FlatArm) (c : Width) → x ≡ b.Case wild e arms → c ≡ common_of (reading S e) (arm_labels (arms_read S arms)) → (s : State) →
+pub case-keeps : (S : Signals) (x : FlatStmt) (wild : Bool) (e : FlatExpr) (arms : List FlatArm) (c : Width) → x ≡ b.Case wild e arms →
+    c ≡ common_of (reading S e) (arm_labels (arms_read S arms)) → (s : State) →
     arms_do S wild c arms (selected_of (reading S e) c s.valuation) s (last_default (arms_read S arms) (λ (z : State). z) s) ≡ keeps_writes S x s
 case-keeps S x wild e arms c h i s =
     let fits : Label → Bool = fits_label s.valuation wild c (selected_of (reading S e) c s.valuation) in
@@ -63,11 +64,13 @@ case-keeps S x wild e arms c h i s =
     (ap (λ (c : Width). taken_of (fits_label s.valuation wild c (selected_of (reading S e) c s.valuation)) (arms_read S arms) (λ (z : State). z) s) i ∙
     sym (ap (λ (y : FlatStmt). keeps_writes S y s) h ∙ keeps-Case S wild e arms s)))
 
-pub case-all : (S : Signals) (x : FlatStmt) (wild : Bool) (e f : FlatExpr) (arms bs : List FlatArm) (c : Width) → x ≡ b.Case wild e arms → f ≡ e → bs ≡ arms → c ≡ common_of (reading S f) (flat_map (labels_of S) bs) → (s : State) →
+pub case-all : (S : Signals) (x : FlatStmt) (wild : Bool) (e f : FlatExpr) (arms bs : List FlatArm) (c : Width) → x ≡ b.Case wild e arms → f ≡ e → bs ≡ arms →
+    c ≡ common_of (reading S f) (flat_map (labels_of S) bs) → (s : State) →
     arms_do S wild c bs (selected_of (reading S f) c s.valuation) s (last_default (arms_read S bs) (λ (z : State). z) s) ≡ keeps_writes S x s
 case-all S x wild e f arms bs c h i j k s =
     let m : c ≡ common_of (reading S e) (arm_labels (arms_read S arms)) =
-    k ∙ (ap (λ (z : FlatExpr). common_of (reading S z) (flat_map (labels_of S) bs)) i ∙ (ap (λ (z : List FlatArm). common_of (reading S e) (flat_map (labels_of S) z)) j ∙ ap (common_of (reading S e)) (sym (arm-labels S arms)))) in
+    k ∙ (ap (λ (z : FlatExpr). common_of (reading S z) (flat_map (labels_of S) bs)) i ∙ (ap (λ (z : List FlatArm). common_of (reading S e) (flat_map (labels_of S) z)) j ∙
+    ap (common_of (reading S e)) (sym (arm-labels S arms)))) in
     ap (λ (z : FlatExpr). arms_do S wild c bs (selected_of (reading S z) c s.valuation) s (last_default (arms_read S bs) (λ (z : State). z) s)) i ∙
     (ap (λ (z : List FlatArm). arms_do S wild c z (selected_of (reading S e) c s.valuation) s (last_default (arms_read S z) (λ (z : State). z) s)) j ∙ case-keeps S x wild e arms c h m s)
 
@@ -86,16 +89,19 @@ module _ (S : Signals) where
   arm-at (x ∷ xs) zero d lt h = and-left (good_arm_of S x) (list_all (good_arm_of S) xs) h
   arm-at (x ∷ xs) (suc i) d lt h = arm-at xs i d (omega arith) (and-right (good_arm_of S x) (list_all (good_arm_of S) xs) h)
 
-  pub arm-good : (arms : List FlatArm) (i : ℕ) (a : FlatArm) → i < length arms → a ≡ get_or arms i a → list_all (good_arm_of S) arms ≡ true → (list_all (is_good S) a.labels ≡ true) × (good_stmt S a.body ≡ true)
+  pub arm-good : (arms : List FlatArm) (i : ℕ) (a : FlatArm) → i < length arms → a ≡ get_or arms i a → list_all (good_arm_of S) arms ≡ true →
+      (list_all (is_good S) a.labels ≡ true) × (good_stmt S a.body ≡ true)
   arm-good arms i a lt e h =
       let g : good_arm_of S a ≡ true = ap (good_arm_of S) e ∙ arm-at arms i a lt h in
       (and-left (list_all (is_good S) a.labels) (good_stmt S a.body) g, and-right (list_all (is_good S) a.labels) (good_stmt S a.body) g)
 
 module _ {cells : List Cell} where
-  pub arms-none : {net : Net} {now done bn bd : List ℕ} (selector : Value) → IsTable net cells bn → length bd ≡ length done → MayBeTable net cells bd → ArmsRun net net cells now done bn bd bn bd selector (λ x s q. q)
+  pub arms-none : {net : Net} {now done bn bd : List ℕ} (selector : Value) → IsTable net cells bn → length bd ≡ length done → MayBeTable net cells bd →
+      ArmsRun net net cells now done bn bd bn bd selector (λ x s q. q)
   arms-none {net} selector h e m = record { grows = grows-refl net; table = h; count = e; rest = m; shows = λ w s q o x y. y; leaves = λ w s q u o x l y z. z }
 
-  pub arms-same : {old new : Net} {now done bn bd rn rd : List ℕ} {selector : Value} {G H : ℕ → State → State → State} → ArmsRun old new cells now done bn bd rn rd selector G → ((x : ℕ) (s q : State) → G x s q ≡ H x s q) →
+  pub arms-same : {old new : Net} {now done bn bd rn rd : List ℕ} {selector : Value} {G H : ℕ → State → State → State} → ArmsRun old new cells now done bn bd rn rd selector G →
+      ((x : ℕ) (s q : State) → G x s q ≡ H x s q) →
       ArmsRun old new cells now done bn bd rn rd selector H
   arms-same {rn = rn} {rd = rd} {selector = selector} r e = record {
     grows = r.grows;
@@ -123,7 +129,8 @@ module _ {cells : List Cell} where
             let o2 = obeys-before b2 b3 w r.grows o3 in
             let o1 = obeys-before b1 b2 w f.grows o2 in
             let G' : State = G (number w selector) s q in
-            subst (λ (v : Valuation). Shows w cells rn v) (ap (λ (u : Bool). if u then (g s).valuation else G'.valuation) (fit w s o2 x) ∙ if-out (F (number w selector) s.valuation) (λ z. z.valuation) (g s) G')
+            subst (λ (v : Valuation). Shows w cells rn v) (ap (λ (u : Bool). if u then (g s).valuation else G'.valuation) (fit w s o2 x) ∙
+            if-out (F (number w selector) s.valuation) (λ z. z.valuation) (g s) G')
             (k.shows w (g s).valuation G'.valuation o (r.shows w s o3 x) (a.shows w s q o1 x y));
         leaves = λ w s q u o x l y z.
             let o3 = obeys-before b3 b4 w k.grows o in
@@ -137,7 +144,8 @@ module _ {cells : List Cell} where
 
   -- an arm that is known not to fit
   pub arms-skip : {b0 b1 b2 : Net} {now done bn bd yn yd : List ℕ} {t selector : Value} {G : ℕ → State → State → State} {F : ℕ → Valuation → Bool} (g : State → State) →
-      ArmsRun b0 b1 cells now done bn bd yn yd selector G → Fits b1 b2 cells now t selector F → IsZero t → ArmsRun b0 b2 cells now done bn bd yn yd selector (λ x s q. if F x s.valuation then g s else G x s q)
+      ArmsRun b0 b1 cells now done bn bd yn yd selector G → Fits b1 b2 cells now t selector F → IsZero t →
+      ArmsRun b0 b2 cells now done bn bd yn yd selector (λ x s q. if F x s.valuation then g s else G x s q)
   arms-skip {b0} {b1} {b2} {yn = yn} {yd = yd} {t = t} {selector = selector} {G = G} {F = F} g a f z =
       let miss : (w : World) (s q : State) → Obeys b2 w → Shows w cells _ s.valuation → G (number w selector) s q ≡ (if F (number w selector) s.valuation then g s else G (number w selector) s q) =
       λ w s q o x.
@@ -153,7 +161,8 @@ module _ {cells : List Cell} where
       }
 
   -- all of it
-  pub runs-case : {b0 b1 b2 b3 : Net} {now done bn bd rn rd : List ℕ} {selector : Value} {W : ℕ} {f : Valuation → ℕ} {D : State → State} {G : ℕ → State → State → State} → Means b0 b1 selector cells now W f →
+  pub runs-case : {b0 b1 b2 b3 : Net} {now done bn bd rn rd : List ℕ} {selector : Value} {W : ℕ} {f : Valuation → ℕ} {D : State → State} {G : ℕ → State → State → State} →
+      Means b0 b1 selector cells now W f →
       Runs b1 b2 cells now done bn bd D → ArmsRun b2 b3 cells now done bn bd rn rd selector G → Runs b0 b3 cells now done rn rd (λ s. G (f s.valuation) s (D s))
   runs-case {b0} {b1} {b2} {b3} {rn = rn} {rd = rd} {f = f} {D = D} {G = G} m r a = record {
     grows = grows-trans b0 b1 b3 m.grows (grows-trans b1 b2 b3 r.grows a.grows);

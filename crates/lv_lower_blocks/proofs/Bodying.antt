@@ -22,7 +22,8 @@ pub is-table : {net : Net} {cells : List Cell} {t : List ℕ} → IsTable net ce
 is-table h = record { is = λ l. h }
 
 module _ {cells : List Cell} (S : Signals) (s : FlatStmt) where
-  pub settles : {old new : Net} {now done now' done' : List ℕ} → list_all (λ (e : Event). e.at_once) (flow S s).events ≡ true → Runs old new cells now done now' done' (λ st. keeps_writes S s st) → Settles old new S cells now now' s
+  pub settles : {old new : Net} {now done now' done' : List ℕ} → list_all (λ (e : Event). e.at_once) (flow S s).events ≡ true →
+      Runs old new cells now done now' done' (λ st. keeps_writes S s st) → Settles old new S cells now now' s
   settles {now' = now'} h r = record {
     grows = r.grows;
     table = r.table;

@@ -1,5 +1,6 @@
 -- The arms of a `case` from the last to the first, and its labels over a table.
-use Rattle.std.proofs.Common.{◌≡◌, ℕ, ◌+◌, ◌*◌, ◌/◌, ◌%◌, ◌<◌, ◌≤◌, ◌^◌, ◌==◌, zero, suc, max, Bool, true, false, ◌&&◌, ◌||◌, List, [], ◌∷◌, ◌++◌, length, map, take, drop, drop-cons, add-one, get_or, refl, sym, ◌∙◌, ap, subst, arith, Some, None}
+use Rattle.std.proofs.Common.{◌≡◌, ℕ, ◌+◌, ◌*◌, ◌/◌, ◌%◌, ◌<◌, ◌≤◌, ◌^◌, ◌==◌, zero, suc, max, Bool, true, false, ◌&&◌, ◌||◌, List, [], ◌∷◌, ◌++◌, length, map, take, drop, drop-cons, add-one}
+use Rattle.std.proofs.Common.{get_or, refl, sym, ◌∙◌, ap, subst, arith, Some, None}
 use Rattle.std.specs.Prelude.{if◌then◌else◌, flat_map, bit_or}
 use Rattle.std.specs.List.{list_all, list_any}
 use Rattle.std.proofs.Math.Seq.{take-suc}
@@ -148,7 +149,8 @@ module _ (S : Signals) where
   pub arms-within : (arms : List FlatArm) (c : Width) (n : ℕ) → (common_more (flat_map (labels_of S) arms) c).width ≤ n → ArmsWithin S arms n
   arms-within [] c n h = All-nil (λ (a : FlatArm). AreWithin S a.labels n)
   arms-within (a ∷ as') c n h =
-      let e : common_more (labels_of S a ++ flat_map (labels_of S) as') c ≡ common_more (labels_of S a) (common_more (flat_map (labels_of S) as') c) = common-append (labels_of S a) (flat_map (labels_of S) as') c in
+      let e : common_more (labels_of S a ++ flat_map (labels_of S) as') c ≡ common_more (labels_of S a) (common_more (flat_map (labels_of S) as') c) = common-append (labels_of S a)
+      (flat_map (labels_of S) as') c in
       let k : (common_more (labels_of S a) (common_more (flat_map (labels_of S) as') c)).width ≤ n = subst (λ (w : Width). w.width ≤ n) e h in
       let r = rest-within (labels_of S a) (common_more (flat_map (labels_of S) as') c) in
       All-cons (λ (a : FlatArm). AreWithin S a.labels n) a as' (labels-within a.labels (common_more (flat_map (labels_of S) as') c) n k) (arms-within as' c n (omega (arith, k, r)))
@@ -183,11 +185,13 @@ module _ (S : Signals) where
 -- ---- what labels are
 
 module _ {cells : List Cell} {table : List ℕ} where
-  pub fits-none : (net : Net) (r selector : Value) (f : ℕ → Valuation → Bool) → IsIn net r → width_of r ≡ 1 → ((w : World) → number w r ≡ 0) → ((x : ℕ) (v : Valuation) → f x v ≡ false) → Fits net net cells table r selector f
+  pub fits-none : (net : Net) (r selector : Value) (f : ℕ → Valuation → Bool) → IsIn net r → width_of r ≡ 1 → ((w : World) → number w r ≡ 0) → ((x : ℕ) (v : Valuation) → f x v ≡ false) →
+      Fits net net cells table r selector f
   fits-none net r selector f i e z h = record { grows = grows-refl net; in_new = i; width = e; is = λ w v o s. z w ∙ sym (ap bit (h (number w selector) v)) }
 
   -- one of a label and of those before it
-  pub fits-either : {old mid last new : Net} {p q r selector : Value} {f g : ℕ → Valuation → Bool} → Fits old mid cells table p selector f → Fits mid last cells table q selector g → Gives last new r 1 (λ w. bit_or (number w p) (number w q)) →
+  pub fits-either : {old mid last new : Net} {p q r selector : Value} {f g : ℕ → Valuation → Bool} → Fits old mid cells table p selector f → Fits mid last cells table q selector g →
+      Gives last new r 1 (λ w. bit_or (number w p) (number w q)) →
       Fits old new cells table r selector (λ x v. f x v || g x v)
   fits-either {old} {mid} {last} {new} {p} {q} {r} {selector} {f} {g} a b g' = record {
     grows = grows-trans old mid new a.grows (grows-trans mid last new b.grows g'.grows);
@@ -196,13 +200,16 @@ module _ {cells : List Cell} {table : List ℕ} where
     is = λ w v o s.
         let o1 = obeys-before last new w g'.grows o in
         let o0 = obeys-before mid last w b.grows o1 in
-        g'.is w o ∙ (ap (λ n. bit_or n (number w q)) (a.is w v o0 s) ∙ (ap (λ n. bit_or (bit (f (number w selector) v)) n) (b.is w v o1 s) ∙ or-bits (f (number w selector) v) (g (number w selector) v)));
+        g'.is w o ∙ (ap (λ n. bit_or n (number w q)) (a.is w v o0 s) ∙ (ap (λ n. bit_or (bit (f (number w selector) v)) n) (b.is w v o1 s) ∙
+        or-bits (f (number w selector) v) (g (number w selector) v)));
   }
 
-  pub fits-same : {old new : Net} {r selector : Value} {f g : ℕ → Valuation → Bool} → Fits old new cells table r selector f → ((x : ℕ) (v : Valuation) → f x v ≡ g x v) → Fits old new cells table r selector g
+  pub fits-same : {old new : Net} {r selector : Value} {f g : ℕ → Valuation → Bool} → Fits old new cells table r selector f → ((x : ℕ) (v : Valuation) → f x v ≡ g x v) →
+      Fits old new cells table r selector g
   fits-same {selector = selector} a e = record { grows = a.grows; in_new = a.in_new; width = a.width; is = λ w v o s. a.is w v o s ∙ ap bit (e (number w selector) v) }
 
-  pub fits-label : {old mid last new : Net} {y m r selector q : Value} (S : Signals) (wild : Bool) (c : Width) (label : FlatExpr) → q ≡ selector → Means old mid y cells table c.width (λ v. (meaning S label).value c.width c.signed v) →
+  pub fits-label : {old mid last new : Net} {y m r selector q : Value} (S : Signals) (wild : Bool) (c : Width) (label : FlatExpr) → q ≡ selector →
+      Means old mid y cells table c.width (λ v. (meaning S label).value c.width c.signed v) →
       Gives mid last m c.width (λ w. if wild then free_of c.signed c.width (judge S label).literal else 0) →
       Gives last new r 1 (λ w. bit (bit_or (number w q) (number w m) == bit_or (number w y) (number w m))) → Fits old new cells table r selector (λ x v. fits_label v wild c x (label_of S label))
   fits-label {old} {mid} {last} {new} {y} {m} {r} {selector} {q} S wild c label same a b g = record {
@@ -220,20 +227,25 @@ module _ {cells : List Cell} {table : List ℕ} where
 
 -- ---- the loops
 
-pub common-step : (S : Signals) (labels : List FlatExpr) (i j : ℕ) (x : FlatExpr) (c rest : Width) (of : ℕ × Bool) (n : ℕ) (u : Bool) → i < length labels → x ≡ get_or labels i x → j ≡ i + 1 → of ≡ ((meaning S x).width, (meaning S x).signed) →
-    c ≡ common_more (map (label_of S) (drop j labels)) rest → n ≡ max of.0 c.width → u ≡ (of.1 && c.signed) → (let r : Width = record { width = n; signed = u } in r) ≡ common_more (map (label_of S) (drop i labels)) rest
+pub common-step : (S : Signals) (labels : List FlatExpr) (i j : ℕ) (x : FlatExpr) (c rest : Width) (of : ℕ × Bool) (n : ℕ) (u : Bool) → i < length labels → x ≡ get_or labels i x → j ≡ i + 1 →
+    of ≡ ((meaning S x).width, (meaning S x).signed) →
+    c ≡ common_more (map (label_of S) (drop j labels)) rest → n ≡ max of.0 c.width → u ≡ (of.1 && c.signed) →
+    (let r : Width = record { width = n; signed = u } in r) ≡ common_more (map (label_of S) (drop i labels)) rest
 common-step S labels i j x c rest of n u lt e k o h p q =
     let d : Width = common_more (map (label_of S) (drop (i + 1) labels)) rest in
     let m : c ≡ d = h ∙ ap (λ z. common_more (map (label_of S) (drop z labels)) rest) k in
     ap (λ z. let r : Width = record { width = z; signed = u } in r) (p ∙ (ap (λ (z : ℕ × Bool). max z.0 c.width) o ∙ ap (λ (z : Width). max (meaning S x).width z.width) m)) ∙
-    (ap (λ z. let r : Width = record { width = max (meaning S x).width d.width; signed = z } in r) (q ∙ (ap (λ (z : ℕ × Bool). z.1 && c.signed) o ∙ ap (λ (z : Width). (meaning S x).signed && z.signed) m)) ∙
+    (ap (λ z. let r : Width = record { width = max (meaning S x).width d.width; signed = z } in r) (q ∙ (ap (λ (z : ℕ × Bool). z.1 && c.signed) o ∙
+    ap (λ (z : Width). (meaning S x).signed && z.signed) m)) ∙
     sym (common-next S labels i x rest lt e))
 
-pub common-arm-step : (S : Signals) (X : Reading) (arms : List FlatArm) (i j : ℕ) (a : FlatArm) (c d : Width) → i < length arms → a ≡ get_or arms i a → j ≡ i + 1 → c ≡ common_of X (flat_map (labels_of S) (drop j arms)) →
+pub common-arm-step : (S : Signals) (X : Reading) (arms : List FlatArm) (i j : ℕ) (a : FlatArm) (c d : Width) → i < length arms → a ≡ get_or arms i a → j ≡ i + 1 →
+    c ≡ common_of X (flat_map (labels_of S) (drop j arms)) →
     d ≡ common_more (labels_of S a) c → d ≡ common_of X (flat_map (labels_of S) (drop i arms))
 common-arm-step S X arms i j a c d lt e k h m =
     let w : Width = record { width = X.meaning.width; signed = X.meaning.signed } in
-    let n : c ≡ common_more (flat_map (labels_of S) (drop (i + 1) arms)) w = h ∙ (ap (λ z. common_of X (flat_map (labels_of S) (drop z arms))) k ∙ common-is X (flat_map (labels_of S) (drop (i + 1) arms))) in
+    let n : c ≡ common_more (flat_map (labels_of S) (drop (i + 1) arms)) w = h ∙ (ap (λ z. common_of X (flat_map (labels_of S) (drop z arms))) k ∙
+    common-is X (flat_map (labels_of S) (drop (i + 1) arms))) in
     m ∙ (ap (common_more (labels_of S a)) n ∙ (sym (common-arm S arms i a w lt e) ∙ sym (common-is X (flat_map (labels_of S) (drop i arms)))))
 
 pub none-behind : {A : Type 0} (xs : List A) (n : ℕ) → length xs ≤ n → drop n xs ≡ []
@@ -251,7 +263,8 @@ pub labelled-none : (arms : List FlatArm) (n : ℕ) → length arms ≤ n → Ar
 labelled-none arms n h = subst AreLabelled (sym (none-behind arms n h)) (All-nil (λ (x : FlatArm). 1 ≤ length x.labels))
 
 -- one label more
-pub any-more : {A : Type 0} (f : A → Bool) (g : FlatExpr → A) (es : List FlatExpr) (i : ℕ) (x : FlatExpr) → i < length es → x ≡ get_or es i x → (list_any f (map g (take i es)) || f (g x)) ≡ list_any f (map g (take (i + 1) es))
+pub any-more : {A : Type 0} (f : A → Bool) (g : FlatExpr → A) (es : List FlatExpr) (i : ℕ) (x : FlatExpr) → i < length es → x ≡ get_or es i x →
+    (list_any f (map g (take i es)) || f (g x)) ≡ list_any f (map g (take (i + 1) es))
 any-more f g es i x lt e =
     let t : take (i + 1) es ≡ take i es ++ get_or es i x ∷ [] = rw add-one (take-suc es i x lt) in
     sym (ap (λ z. list_any f (map g z)) t ∙ (ap (list_any f) (map-append g (take i es) (get_or es i x ∷ [])) ∙ (any-append f (map g (take i es)) (g (get_or es i x)) ∙
@@ -260,12 +273,15 @@ any-more f g es i x lt e =
 pub labels-of-good : (S : Signals) (arms : List FlatArm) → list_all (good_arm_of S) arms ≡ true → list_all (good_labels S) arms ≡ true
 labels-of-good S [] h = refl
 labels-of-good S (a ∷ as') h =
-    rw (and-left (good_labels S a) (good_stmt S a.body) (and-left (good_arm_of S a) (list_all (good_arm_of S) as') h)) (labels-of-good S as' (and-right (good_arm_of S a) (list_all (good_arm_of S) as') h))
+    rw (and-left (good_labels S a) (good_stmt S a.body) (and-left (good_arm_of S a) (list_all (good_arm_of S) as') h)) (labels-of-good S as' (and-right (good_arm_of S a)
+    (list_all (good_arm_of S) as') h))
 
 -- ---- values of labels
 
-pub free-lit : {b0 b1 b2 b3 b4 : Net} {low x y r p : Value} (S : Signals) (label : FlatExpr) (l : Literal) (wild T : Bool) (W n : ℕ) (word : Bits) → Gives b0 b1 low W (λ w. number w p / 2 ^ 0 % 2 ^ W) →
-    Gives b1 b2 x n (λ w. number w (Known word) / 2 ^ 0 % 2 ^ n) → Gives b2 b3 y W (λ w. extended T (width_of x) W (number w x)) → Gives b3 b4 r (width_of low) (λ w. bit_or (number w low) (number w y)) →
+pub free-lit : {b0 b1 b2 b3 b4 : Net} {low x y r p : Value} (S : Signals) (label : FlatExpr) (l : Literal) (wild T : Bool) (W n : ℕ) (word : Bits) →
+    Gives b0 b1 low W (λ w. number w p / 2 ^ 0 % 2 ^ W) →
+    Gives b1 b2 x n (λ w. number w (Known word) / 2 ^ 0 % 2 ^ n) → Gives b2 b3 y W (λ w. extended T (width_of x) W (number w x)) →
+    Gives b3 b4 r (width_of low) (λ w. bit_or (number w low) (number w y)) →
     p ≡ Known word → word.value ≡ l.wild → n ≡ (meaning S label).width → wild ≡ true → label ≡ e.Lit l → Gives b0 b4 r W (λ w. if wild then free_of T W (judge S label).literal else 0)
 free-lit {b0} {b1} {b2} {b3} {b4} {low} {x} {y} {r} {p} S label l wild T W n word g h k m same value wide is lit = record {
   grows = grows-trans b0 b1 b4 g.grows (grows-trans b1 b2 b4 h.grows (grows-trans b2 b3 b4 k.grows m.grows));
@@ -304,7 +320,8 @@ free-none net r S label wild T W some e lit =
     one-value true n = refl
     one-value false n = refl
 
-pub agree-zero : {old new : Net} {r : Value} (x y m : Value) → IsZero m → Gives old new r 1 (λ w. bit (number w x == number w y)) → Gives old new r 1 (λ w. bit (bit_or (number w x) (number w m) == bit_or (number w y) (number w m)))
+pub agree-zero : {old new : Net} {r : Value} (x y m : Value) → IsZero m → Gives old new r 1 (λ w. bit (number w x == number w y)) →
+    Gives old new r 1 (λ w. bit (bit_or (number w x) (number w m) == bit_or (number w y) (number w m)))
 agree-zero x y m z g = gives-is g refl (λ w o.
     let k : (n : ℕ) → n ≡ bit_or n (number w m) = λ n. sym (ap (bit_or n) (z.is w) ∙ or-none n) in
     ap (λ n. bit (n == number w y)) (k (number w x)) ∙ ap (λ n. bit (bit_or (number w x) (number w m) == n)) (k (number w y)))

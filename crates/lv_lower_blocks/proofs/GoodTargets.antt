@@ -55,7 +55,8 @@ step-fits : (b : Bounds) (c : Choice) → is_good_step b (step_of c) ≡ true �
 step-fits b (Select-F.Bit a) h = (omega arith, omega arith)
 step-fits b (Select-F.Part l r) h =
     fits-width (count_of (Select-F.Part l.meaning r.meaning))
-    (and-right (is_bound (number (shown_of l)) && is_bound (number (shown_of r)) && is_in_order b (own_value l.meaning nowhere) (own_value r.meaning nowhere)) (is_width (count_of (Select-F.Part l.meaning r.meaning))) h)
+    (and-right (is_bound (number (shown_of l)) && is_bound (number (shown_of r)) && is_in_order b (own_value l.meaning nowhere) (own_value r.meaning nowhere))
+    (is_width (count_of (Select-F.Part l.meaning r.meaning))) h)
 step-fits b (Select-F.Up a w) h = fits-width (own_value w.meaning nowhere) (number-width w.meaning h)
 step-fits b (Select-F.Down a w) h = fits-width (own_value w.meaning nowhere) (number-width w.meaning h)
 

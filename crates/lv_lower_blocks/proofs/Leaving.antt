@@ -3,7 +3,8 @@ use Rattle.std.proofs.Common.{◌≡◌, Bool, true, false, List, [], ◌∷◌,
 use Rattle.std.specs.Prelude.{if◌then◌else◌, flat_map}
 use Rattle.std.specs.List.{list_any, list_all}
 use Rattle.lv_source.specs.Names.{Valuation}
-use Rattle.lv_source.specs.Effect.{State, Label, Arm, Width, is_met, places, bits_in, write_all, assigned, is_default, arm_labels, taken_of, common_of, fits_label, selected_of, one_by_one, applied, left_of}
+use Rattle.lv_source.specs.Effect.{State, Label, Arm, Width, is_met, places, bits_in, write_all, assigned, is_default, arm_labels, taken_of, common_of, fits_label, selected_of, one_by_one}
+use Rattle.lv_source.specs.Effect.{applied, left_of}
 use Rattle.lv_source.specs.Meaning.{Reading}
 use Rattle.lv_source.specs.Values.{nowhere}
 use Rattle.lv_source.specs.Flow.{Event, Flow, branches, either_flow, all_flows}
@@ -24,7 +25,8 @@ either-alike : (u : Bool) (f g h k : Effect) → Alike f h → Alike g k → (s 
 either-alike true f g h k a c s t e = a s t e
 either-alike false f g h k a c s t e = c s t e
 
-taken-alike : (u : Bool) (f g h k : Effect) → Alike f h → ((s t : State) → s.valuation ≡ t.valuation → (g s).valuation ≡ (k t).valuation) → (s t : State) → s.valuation ≡ t.valuation → ((if u then f else g) s).valuation ≡ ((if u then h else k) t).valuation
+taken-alike : (u : Bool) (f g h k : Effect) → Alike f h → ((s t : State) → s.valuation ≡ t.valuation → (g s).valuation ≡ (k t).valuation) → (s t : State) → s.valuation ≡ t.valuation →
+    ((if u then f else g) s).valuation ≡ ((if u then h else k) t).valuation
 taken-alike true f g h k a c s t e = a s t e
 taken-alike false f g h k a c s t e = c s t e
 
@@ -33,13 +35,14 @@ default-alike true f g h k a c = a
 default-alike false f g h k a c = c
 
 module _ (S : Signals) where
-  abbrev kept : FlatStmt → Effect
+  abbrev pub kept : FlatStmt → Effect
   kept x = fold_stmt Effect (Arm Effect) (write_step S) (arm_step S) x
 
-  abbrev done : FlatStmt → Effect
+  abbrev pub done : FlatStmt → Effect
   done x = fold_stmt Effect (Arm Effect) (effect_step S) (arm_step S) x
 
-  labels-alike : {n : _} (r : Row_of-FlatArm n) → arm_labels (fold_arms Effect (Arm Effect) (write_step S) (arm_step S) r) ≡ arm_labels (fold_arms Effect (Arm Effect) (effect_step S) (arm_step S) r)
+  pub labels-alike : {n : _} (r : Row_of-FlatArm n) → arm_labels (fold_arms Effect (Arm Effect) (write_step S) (arm_step S) r) ≡ arm_labels (fold_arms Effect (Arm Effect) (effect_step S)
+      (arm_step S) r)
   labels-alike end_of-FlatArm = refl
   labels-alike (more_of-FlatArm labels body xs) = ap (λ ls. map (label_of S) labels ++ ls) (labels-alike xs)
 
@@ -48,7 +51,8 @@ module _ (S : Signals) where
     alike b.Null s t e = e
     alike (b.Block' n ss) s t e = rows-alike ss s t e
     alike (b.If' c n x other) s t e =
-        ap (λ (v : Valuation). (if is_met v (reading S c) then fold_one_stmt Effect (Arm Effect) (write_step S) (arm_step S) x s else otherwise (fold_held Effect (Arm Effect) (write_step S) (arm_step S) other) s).valuation) e ∙
+        ap (λ (v : Valuation). (if is_met v (reading S c) then fold_one_stmt Effect (Arm Effect) (write_step S) (arm_step S) x s else otherwise (fold_held Effect (Arm Effect) (write_step S)
+        (arm_step S) other) s).valuation) e ∙
         either-alike (is_met t.valuation (reading S c)) (fold_one_stmt Effect (Arm Effect) (write_step S) (arm_step S) x) (otherwise (fold_held Effect (Arm Effect) (write_step S) (arm_step S) other))
         (fold_one_stmt Effect (Arm Effect) (effect_step S) (arm_step S) x) (otherwise (fold_held Effect (Arm Effect) (effect_step S) (arm_step S) other)) (one-alike x) (held-alike other) s t e
     alike (b.Case' wild x n arms) s t e =
@@ -56,12 +60,14 @@ module _ (S : Signals) where
         let d : Width = common_of (reading S x) (arm_labels (fold_arms Effect (Arm Effect) (effect_step S) (arm_step S) arms)) in
         let h : c ≡ d = ap (common_of (reading S x)) (labels-alike arms) in
         ap (λ (v : Valuation). (taken_of (fits_label v wild c (selected_of (reading S x) c v)) (fold_arms Effect (Arm Effect) (write_step S) (arm_step S) arms) (λ (z : State). z) s).valuation) e ∙
-        (ap (λ (k : Width). (taken_of (fits_label t.valuation wild k (selected_of (reading S x) k t.valuation)) (fold_arms Effect (Arm Effect) (write_step S) (arm_step S) arms) (λ (z : State). z) s).valuation) h ∙
+        (ap (λ (k : Width). (taken_of (fits_label t.valuation wild k (selected_of (reading S x) k t.valuation)) (fold_arms Effect (Arm Effect) (write_step S) (arm_step S) arms)
+        (λ (z : State). z) s).valuation) h ∙
         arms-alike arms (fits_label t.valuation wild d (selected_of (reading S x) d t.valuation)) (λ z. z) (λ z. z) (λ s t e. e) s t e)
     alike (b.Now target x place) s t e = ap (λ (v : Valuation). write_all v (places v (pieces S target)) (assigned v (bits_in (places v (pieces S target))) (reading S x).meaning)) e
     alike (b.Later target x place) s t e = e
 
-    rows-alike : {n : _} (r : Row_of-FlatStmt n) → Alike (one_by_one (fold_stmts Effect (Arm Effect) (write_step S) (arm_step S) r)) (one_by_one (fold_stmts Effect (Arm Effect) (effect_step S) (arm_step S) r))
+    rows-alike : {n : _} (r : Row_of-FlatStmt n) → Alike (one_by_one (fold_stmts Effect (Arm Effect) (write_step S) (arm_step S) r)) (one_by_one (fold_stmts Effect (Arm Effect) (effect_step S)
+        (arm_step S) r))
     rows-alike end_of-FlatStmt s t e = e
     rows-alike (more_of-FlatStmt x xs) s t e = rows-alike xs (kept x s) (done x t) (alike x s t e)
 
@@ -101,8 +107,9 @@ all-right : (xs ys : List Event) → list_all once (xs ++ ys) ≡ true → list_
 all-right [] ys h = h
 all-right (x ∷ xs) ys h = all-right xs ys (and-right (once x) (list_all once (xs ++ ys)) h)
 
-branch-events : (c : Reading) (holds : Bool) (f g : Flow) → (branches c holds f g).events ≡ f.events ++ g.events
-branch-events c holds f g = elim c.constant as (λ u. (if u then (let r : Flow = record { events = f.events ++ g.events; paths = if holds then f.paths else g.paths } in r) else either_flow f g).events ≡ f.events ++ g.events) [ true ↦ refl | false ↦ refl ]
+pub branch-events : (c : Reading) (holds : Bool) (f g : Flow) → (branches c holds f g).events ≡ f.events ++ g.events
+branch-events c holds f g = elim c.constant as (λ u. (if u then
+    (let r : Flow = record { events = f.events ++ g.events; paths = if holds then f.paths else g.paths } in r) else either_flow f g).events ≡ f.events ++ g.events) [ true ↦ refl | false ↦ refl ]
 
 abbrev Quiet : Effect → Type 0
 Quiet f = (s : State) → (f s).pending ≡ s.pending
@@ -120,7 +127,7 @@ default-quiet true f g a c = a
 default-quiet false f g a c = c
 
 module _ (S : Signals) where
-  abbrev flows : FlatStmt → Flow
+  abbrev pub flows : FlatStmt → Flow
   flows x = fold_stmt Flow (Arm Flow) (flow_step S) (arm_step S) x
 
   mutual
@@ -139,21 +146,25 @@ module _ (S : Signals) where
     quiet (b.Now target x place) h s = refl
     quiet (b.Later target x place) h s = cc
 
-    rows-quiet : {n : _} (r : Row_of-FlatStmt n) → list_all once (all_flows (fold_stmts Flow (Arm Flow) (flow_step S) (arm_step S) r)).events ≡ true → Quiet (one_by_one (fold_stmts Effect (Arm Effect) (effect_step S) (arm_step S) r))
+    rows-quiet : {n : _} (r : Row_of-FlatStmt n) → list_all once (all_flows (fold_stmts Flow (Arm Flow) (flow_step S) (arm_step S) r)).events ≡ true →
+        Quiet (one_by_one (fold_stmts Effect (Arm Effect) (effect_step S) (arm_step S) r))
     rows-quiet end_of-FlatStmt h s = refl
     rows-quiet (more_of-FlatStmt x xs) h s =
         let rest : List Event = (all_flows (fold_stmts Flow (Arm Flow) (flow_step S) (arm_step S) xs)).events in
         rows-quiet xs (all-right (flows x).events rest h) (done S x s) ∙ quiet x (all-left (flows x).events rest h) s
 
-    one-quiet : {n : _} (r : Row_of-FlatStmt n) → list_all once (fold_one_stmt Flow (Arm Flow) (flow_step S) (arm_step S) r).events ≡ true → Quiet (fold_one_stmt Effect (Arm Effect) (effect_step S) (arm_step S) r)
+    one-quiet : {n : _} (r : Row_of-FlatStmt n) → list_all once (fold_one_stmt Flow (Arm Flow) (flow_step S) (arm_step S) r).events ≡ true →
+        Quiet (fold_one_stmt Effect (Arm Effect) (effect_step S) (arm_step S) r)
     one-quiet end_of-FlatStmt h s = refl
     one-quiet (more_of-FlatStmt x xs) h s = quiet x h s
 
-    held-quiet : (r : Held-FlatStmt-If-2) → list_all once (flow_or (fold_held Flow (Arm Flow) (flow_step S) (arm_step S) r)).events ≡ true → Quiet (otherwise (fold_held Effect (Arm Effect) (effect_step S) (arm_step S) r))
+    held-quiet : (r : Held-FlatStmt-If-2) → list_all once (flow_or (fold_held Flow (Arm Flow) (flow_step S) (arm_step S) r)).events ≡ true →
+        Quiet (otherwise (fold_held Effect (Arm Effect) (effect_step S) (arm_step S) r))
     held-quiet None' h s = refl
     held-quiet (Some' n x) h s = one-quiet x h s
 
-    arms-quiet : {n : _} (r : Row_of-FlatArm n) → list_all once (flat_map (λ (a : Arm Flow). a.body.events) (fold_arms Flow (Arm Flow) (flow_step S) (arm_step S) r)) ≡ true → (fits : Label → Bool) (f : Effect) → Quiet f →
+    arms-quiet : {n : _} (r : Row_of-FlatArm n) → list_all once (flat_map (λ (a : Arm Flow). a.body.events) (fold_arms Flow (Arm Flow) (flow_step S) (arm_step S) r)) ≡ true → (fits : Label →
+        Bool) (f : Effect) → Quiet f →
         Quiet (taken_of fits (fold_arms Effect (Arm Effect) (effect_step S) (arm_step S) r) f)
     arms-quiet end_of-FlatArm h fits f q s = q s
     arms-quiet (more_of-FlatArm labels body xs) h fits f q s =

@@ -4,6 +4,7 @@ pub mod Bodying
 pub mod Casing
 pub mod GoodTargets
 pub mod Keeping
+pub mod Late
 pub mod Leaving
 pub mod Merging
 pub mod Picking

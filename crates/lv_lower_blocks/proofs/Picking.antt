@@ -70,7 +70,8 @@ module _ {cells : List Cell} where
         (k.is w o i (omega (arith, len, lt))) (s.is i lt) (r.is i lt);
   }
 
-  pub chosen-of : {old new : Net} {t : Value} {xn xd yn yd rn rd : List ℕ} → IsTable old cells xn → MayBeTable old cells xd → Picks old new t xn yn rn → Picks old new t xd yd rd → Chosen old new cells xn xd yn yd rn rd t
+  pub chosen-of : {old new : Net} {t : Value} {xn xd yn yd rn rd : List ℕ} → IsTable old cells xn → MayBeTable old cells xd → Picks old new t xn yn rn → Picks old new t xd yd rd →
+      Chosen old new cells xn xd yn yd rn rd t
   chosen-of h m p q = record {
     grows = p.grows;
     table = picked-table p h;

@@ -22,7 +22,8 @@ use Rattle.lv_lower_exprs.specs.Tables.{IsTable, Shows, AreFirsts, value_at}
 use Rattle.lv_lower_exprs.proofs.Wholes.{signal_in, cell_is, element_is, write_whole}
 use Rattle.lv_lower_blocks.specs.declared.aims.Spot.{Spot}
 use Rattle.lv_lower_blocks.specs.declared.aims.Aim.{Aim}
-use Rattle.lv_lower_blocks.specs.Aimed.{span_of, spot_number, bits_at, element_at, place_at, aim_place, IsElement, is_number, is_hit, put_value, put_at, first_number, cell_count, spot_width, IsZero, Puts}
+use Rattle.lv_lower_blocks.specs.Aimed.{span_of, spot_number, bits_at, element_at, place_at, aim_place, IsElement, is_number, is_hit, put_value, put_at, first_number, cell_count, spot_width}
+use Rattle.lv_lower_blocks.specs.Aimed.{IsZero, Puts}
 use Rattle.lv_lower_blocks.specs.Rewritten.{Rewrites}
 use Rattle.lv_lower_blocks.proofs.Rewriting.{rewrites-next, rewritten-table, width-later}
 
@@ -112,7 +113,8 @@ module _ (S : Signals) (a : Aim) (w : World) where
     missed : (b : Bounds) → d.array ≡ Some b → (z : ℤ) → ((j : ℕ) → j < size b → i ≡ at + j → is_number z (low b + j) ≡ true → ⊥) → write v (element_at d b z bits) x name ≡ v name
     missed b e (negsuc m) never = write-nowhere v bits x name
     missed b e (pos m) never =
-        elim (within (low b) (high b) m) as (λ c. within (low b) (high b) m ≡ c → write v (if c then (let p : Place = record { name = at_index d.path (decimal m); bits = bits } in p) else nowhere_place bits) x name ≡ v name) [
+        elim (within (low b) (high b) m) as (λ c. within (low b) (high b) m ≡ c →
+        write v (if c then (let p : Place = record { name = at_index d.path (decimal m); bits = bits } in p) else nowhere_place bits) x name ≡ v name) [
           | true ↦ λ h. write-off v (record { name = at_index d.path (decimal m); bits = bits }) x name (λ eq.
               let r = inside (low b) (high b) m h in
               let j : ℕ = m - low b in
@@ -153,7 +155,8 @@ module _ {old new : Net} (S : Signals) (a : Aim) (t u : List ℕ) (x : Value) (a
               is = λ i lt.
                   let name : Name = (cell_at (all_cells S) i).name in
                   let was : value_at w (slice_index t i) ≡ v name = s.is i lt in
-                  let off : ((j : ℕ) → j < cell_count d.array → i ≡ length (all_cells (take a.signal S)) + j → is_hit w a.element (first_number d.array + j) ≡ true → ⊥) → v name ≡ write v (aim_place w S a) (number w x) name =
+                  let off : ((j : ℕ) → j < cell_count d.array → i ≡ length (all_cells (take a.signal S)) + j → is_hit w a.element (first_number d.array + j) ≡ true → ⊥) →
+                  v name ≡ write v (aim_place w S a) (number w x) name =
                   λ never. sym (ap (λ (q : Place). write v q (number w x) name) aim ∙ miss-place S a w sort distinct v (number w x) i lt d.array a.element array refl never) in
                   elim (cases_lt i at) [
                     | inl less ↦ ap (value_at w) (r.below i less) ∙ (was ∙ off (λ j l e k. omega (arith, e, start, less)))
@@ -165,7 +168,8 @@ module _ {old new : Net} (S : Signals) (a : Aim) (t u : List ℕ) (x : Value) (a
             };
       }
     where
-      inner : (w : World) (v : Valuation) → Obeys new w → Shows w (all_cells S) t v → (i : ℕ) → i < length (all_cells S) → at ≤ i → i < hi → value_at w (slice_index t i) ≡ v (cell_at (all_cells S) i).name →
+      inner : (w : World) (v : Valuation) → Obeys new w → Shows w (all_cells S) t v → (i : ℕ) → i < length (all_cells S) → at ≤ i → i < hi →
+          value_at w (slice_index t i) ≡ v (cell_at (all_cells S) i).name →
           (((j : ℕ) → j < cell_count (signal_at S a.signal).array → i ≡ length (all_cells (take a.signal S)) + j → is_hit w a.element (first_number (signal_at S a.signal).array + j) ≡ true → ⊥) →
           v (cell_at (all_cells S) i).name ≡ write v (aim_place w S a) (number w x) (cell_at (all_cells S) i).name) →
           aim_place w S a ≡ place_at (signal_at S a.signal).array (signal_at S a.signal) (span_of w a.element) (span_of w a.bits) →
@@ -186,7 +190,8 @@ module _ {old new : Net} (S : Signals) (a : Aim) (t u : List ℕ) (x : Value) (a
             | true ↦ λ h.
                 let p : aim_place w S a ≡ (let q : Place = record { name = cell_name d.array d j; bits = bits } in q) = aim ∙ hit-place S a w d.array a.element j array l h in
                 let named : name ≡ cell_name d.array d j = ap (λ (q : ℕ). (cell_at (all_cells S) q).name) (sym here) ∙ (cell-named S a.signal d.array j sort refl l).1 in
-                ap (λ (q : ℕ). write_bits q bits (number w x)) was ∙ sym (ap (λ (q : Place). write v q (number w x) name) p ∙ write-at v (record { name = cell_name d.array d j; bits = bits }) (number w x) name named)
+                ap (λ (q : ℕ). write_bits q bits (number w x)) was ∙ sym (ap (λ (q : Place). write v q (number w x) name) p ∙
+                write-at v (record { name = cell_name d.array d j; bits = bits }) (number w x) name named)
             | false ↦ λ h. was ∙ off (λ m k e g. differ h (let y : m ≡ j = omega (arith, e, here) in subst (λ (q : ℕ). is_hit w a.element (first_number d.array + q) ≡ true) y g))
           ] refl)
         where
@@ -217,7 +222,8 @@ puts-nowhere {net} S a x h t = record {
 }
 
 -- a whole word
-pub rewritten-whole : (net : Net) (d : Declared) (o : Option Spot) (x : Value) (old : ℕ) → o ≡ None → old < length net.nodes → width_at net.nodes old ≡ width_of d → IsIn net x → wide_of x ≡ spot_width (width_of d) o →
+pub rewritten-whole : (net : Net) (d : Declared) (o : Option Spot) (x : Value) (old : ℕ) → o ≡ None → old < length net.nodes → width_at net.nodes old ≡ width_of d → IsIn net x →
+    wide_of x ≡ spot_width (width_of d) o →
     Gives net net x (width_of d) (λ w. write_bits (value_at w old) (bits_at d (span_of w o)) (number w x))
 rewritten-whole net d None x old h lt e i g =
     gives-is (gives-same net x i) g (λ w o.
@@ -262,7 +268,8 @@ module _ (S : Signals) (a : Aim) (d : Declared) (e : signal_at S a.signal ≡ d)
 
   -- of an array, where the index may be this number
   pub element-hit : {b0 b1 b2 b3 b4 : Net} {t r y : Value} (V : ℕ) (s : Spot) → a.element ≡ Some s → Gives b0 b1 t 1 (λ w. bit (is_number (spot_number w s) n)) →
-      Gives b1 b2 r (width_of d) (λ w. write_bits (value_at w o) (bits_at d (span_of w a.bits)) (number w x)) → Gives b2 b3 y (wide_of r) (λ w. if number w t == 0 then number w (Node o V) else number w r) →
+      Gives b1 b2 r (width_of d) (λ w. write_bits (value_at w o) (bits_at d (span_of w a.bits)) (number w x)) →
+      Gives b2 b3 y (wide_of r) (λ w. if number w t == 0 then number w (Node o V) else number w r) →
       Gives b3 b4 (Node k (wide_of y)) (wide_of y) (λ w. number w y) → Gives b0 b4 (Node k (width_of (signal_at S a.signal))) (width_of (signal_at S a.signal)) cell_of'
   element-hit {b0} {b1} {b2} {b3} {b4} {t} {r} {y} V s h p q g m =
       let c : Gives b0 b3 y (width_of d) (λ w. if is_number (spot_number w s) n then write_bits (value_at w o) (bits_at d (span_of w a.bits)) (number w x) else value_at w o) = record {
@@ -280,7 +287,8 @@ module _ (S : Signals) (a : Aim) (d : Declared) (e : signal_at S a.signal ≡ d)
       ap (λ (z : Option Spot). if is_hit w z n then write_bits (value_at w o) (bits_at (signal_at S a.signal) (span_of w a.bits)) (number w x) else value_at w o) (sym h))
 
 -- where it never is
-pub element-miss : {old new : Net} {t : Value} (S : Signals) (a : Aim) (n o : ℕ) (x : Value) (s : Spot) → a.element ≡ Some s → o < length old.nodes → width_at old.nodes o ≡ width_of (signal_at S a.signal) →
+pub element-miss : {old new : Net} {t : Value} (S : Signals) (a : Aim) (n o : ℕ) (x : Value) (s : Spot) → a.element ≡ Some s → o < length old.nodes →
+    width_at old.nodes o ≡ width_of (signal_at S a.signal) →
     Gives old new t 1 (λ w. bit (is_number (spot_number w s) n)) → IsZero t →
     Gives old new (Node o (width_of (signal_at S a.signal))) (width_of (signal_at S a.signal)) (λ w. put_value w S a n (value_at w o) (number w x))
 element-miss {old} {new} {t} S a n o x s h lt e g z = record {
@@ -293,7 +301,8 @@ element-miss {old} {new} {t} S a n o x s h lt e g z = record {
 }
 
 -- the cells of a signal stand in the table
-pub cells-inside : (S : Signals) (k at n i : ℕ) (d : Declared) (first : List ℕ) → signal_at S k ≡ d → is_signal_sort (signal_at S k).sort ≡ true → AreFirsts S first → at ≡ slice_index first k → n ≡ cell_count d.array → at ≤ i → i < at + n →
+pub cells-inside : (S : Signals) (k at n i : ℕ) (d : Declared) (first : List ℕ) → signal_at S k ≡ d → is_signal_sort (signal_at S k).sort ≡ true → AreFirsts S first → at ≡ slice_index first k →
+    n ≡ cell_count d.array → at ≤ i → i < at + n →
     (i < length (all_cells S)) × ((cell_at (all_cells S) i).width ≡ width_of (signal_at S k))
 cells-inside S k at n i d first e sort f a m le lt =
     let at_is : at ≡ length (all_cells (take k S)) = a ∙ f.is k (signal_in S k sort) in
@@ -304,7 +313,8 @@ cells-inside S k at n i d first e sort f a m le lt =
     (omega (arith, here, c.0), sym (ap (λ (q : ℕ). (cell_at (all_cells S) q).width) here) ∙ c.2)
 
 -- all of them
-pub cells-end : (S : Signals) (k at n : ℕ) (d : Declared) (first : List ℕ) → signal_at S k ≡ d → is_signal_sort (signal_at S k).sort ≡ true → AreFirsts S first → at ≡ slice_index first k → n ≡ cell_count d.array → 1 ≤ n →
+pub cells-end : (S : Signals) (k at n : ℕ) (d : Declared) (first : List ℕ) → signal_at S k ≡ d → is_signal_sort (signal_at S k).sort ≡ true → AreFirsts S first → at ≡ slice_index first k →
+    n ≡ cell_count d.array → 1 ≤ n →
     at + n ≤ length (all_cells S)
 cells-end S k at n d first e sort f a m some =
     let h = (cells-inside S k at n (at + n - 1) d first e sort f a m (omega (arith, some)) (omega (arith, some))).0 in
@@ -316,7 +326,8 @@ count-some (Some b) = omega arith
 
 -- a cell more
 module _ {old mid new : Net} (S : Signals) (a : Aim) (x : Value) (t u : List ℕ) (y : Value) (at i from m k o n : ℕ) where
-  pub puts-more : y ≡ x → Rewrites old mid t u at i (put_at S a x t at from) → IsTable old (all_cells S) t → at ≤ i → i < length (all_cells S) → (cell_at (all_cells S) i).width ≡ width_of (signal_at S a.signal) →
+  pub puts-more : y ≡ x → Rewrites old mid t u at i (put_at S a x t at from) → IsTable old (all_cells S) t → at ≤ i → i < length (all_cells S) →
+      (cell_at (all_cells S) i).width ≡ width_of (signal_at S a.signal) →
       o ≡ slice_index u i → n ≡ from + (i - at) → m ≡ i + 1 →
       Gives mid new (Node k (width_of (signal_at S a.signal))) (width_of (signal_at S a.signal)) (λ w. put_value w S a n (value_at w o) (number w y)) →
       Rewrites old new t (slice_set u i k) at m (put_at S a x t at from)

@@ -32,7 +32,8 @@ module _ (old new last : Net) (a t : List ℕ) (lo k m n : ℕ) (f : World → �
   other i ne = get_or-set_other t k i n 0 ne
 
   -- the next node is exchanged too
-  pub rewrites-next : n < length last.nodes → width_at last.nodes n ≡ width_at old.nodes (slice_index a k) → ((w : World) → Obeys last w → value_at w n ≡ f w k) → Rewrites old last a (slice_set t k n) lo m f
+  pub rewrites-next : n < length last.nodes → width_at last.nodes n ≡ width_at old.nodes (slice_index a k) → ((w : World) → Obeys last w → value_at w n ≡ f w k) →
+      Rewrites old last a (slice_set t k n) lo m f
   rewrites-next inside wide is = record {
     grows = grows-trans old new last r.grows g;
     count = length-set t k n ∙ r.count;

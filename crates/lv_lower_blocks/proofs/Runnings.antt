@@ -54,7 +54,8 @@ chosen-other n x y ne = elim (n == 0) as (λ c. (n == 0) ≡ c → x ≡ (if not
 module _ {cells : List Cell} where
   -- ---- what a choice shows
 
-  merged-shows : {old new : Net} (k : ℕ) {n : ℕ} {a b c : List ℕ} {p q : Valuation} {w : World} → Merges old new k a b c → length a ≡ length cells → Obeys new w → value_at w k ≡ n → Shows w cells a p → Shows w cells b q →
+  merged-shows : {old new : Net} (k : ℕ) {n : ℕ} {a b c : List ℕ} {p q : Valuation} {w : World} → Merges old new k a b c → length a ≡ length cells → Obeys new w → value_at w k ≡ n →
+      Shows w cells a p → Shows w cells b q →
       Shows w cells c (if not (n == 0) then p else q)
   merged-shows k {n = n} {a = a} {b = b} {c = c} {p = p} {q = q} {w = w} j len o e s t = record {
     is = λ i lt.
@@ -96,7 +97,8 @@ module _ {cells : List Cell} where
 
   -- ---- a choice
 
-  node-is : {old new : Net} {t : Value} {k W V : ℕ} {table : List ℕ} {f : Valuation → ℕ} → Means old new t cells table W f → t ≡ Node k V → (w : World) (v : Valuation) → Obeys new w → Shows w cells table v → value_at w k ≡ f v
+  node-is : {old new : Net} {t : Value} {k W V : ℕ} {table : List ℕ} {f : Valuation → ℕ} → Means old new t cells table W f → t ≡ Node k V → (w : World) (v : Valuation) → Obeys new w →
+      Shows w cells table v → value_at w k ≡ f v
   node-is m e w v o s = sym (ap (number w) e) ∙ m.is w v o s
 
   pub runs-if : {old first one both mid new : Net} {t : Value} {k W V : ℕ} {f : Valuation → ℕ} {now done a1 a2 b1 b2 c1 c2 : List ℕ} {g h : State → State} →
@@ -128,11 +130,13 @@ module _ {cells : List Cell} where
             (merged-shows k i len o (node-is m e w s.valuation o1 x) (p.leaves w s u o2 x l y) (q.leaves w s u o3 x l y));
       }
 
-  known-is : {old new : Net} {t : Value} {x : _} {W : ℕ} {table : List ℕ} {f : Valuation → ℕ} → Means old new t cells table W f → t ≡ Known x → (w : World) (v : Valuation) → Obeys new w → Shows w cells table v → x.value ≡ f v
+  known-is : {old new : Net} {t : Value} {x : _} {W : ℕ} {table : List ℕ} {f : Valuation → ℕ} → Means old new t cells table W f → t ≡ Known x → (w : World) (v : Valuation) → Obeys new w →
+      Shows w cells table v → x.value ≡ f v
   known-is m e w v o s = sym (ap (number w) e) ∙ m.is w v o s
 
   -- a condition that is known to be 0
-  pub runs-known : {old first new : Net} {t : Value} {x : _} {W : ℕ} {f : Valuation → ℕ} {now done b1 b2 : List ℕ} {h : State → State} (g : State → State) → Means old first t cells now W f → t ≡ Known x → x.value ≡ 0 →
+  pub runs-known : {old first new : Net} {t : Value} {x : _} {W : ℕ} {f : Valuation → ℕ} {now done b1 b2 : List ℕ} {h : State → State} (g : State → State) → Means old first t cells now W f →
+      t ≡ Known x → x.value ≡ 0 →
       Runs first new cells now done b1 b2 h → Runs old new cells now done b1 b2 (λ s. if not (f s.valuation == 0) then g s else h s)
   runs-known {old} {first} {new} {f = f} {b1 = b1} {b2 = b2} {h = h} g m e z q = record {
     grows = grows-trans old first new m.grows q.grows;
@@ -148,7 +152,8 @@ module _ {cells : List Cell} where
   }
 
   -- one that is known not to be 0
-  pub runs-known-other : {old first new : Net} {t : Value} {x : _} {W : ℕ} {f : Valuation → ℕ} {now done b1 b2 : List ℕ} {g : State → State} (h : State → State) → Means old first t cells now W f → t ≡ Known x → (x.value ≡ 0 → ⊥) →
+  pub runs-known-other : {old first new : Net} {t : Value} {x : _} {W : ℕ} {f : Valuation → ℕ} {now done b1 b2 : List ℕ} {g : State → State} (h : State → State) →
+      Means old first t cells now W f → t ≡ Known x → (x.value ≡ 0 → ⊥) →
       Runs first new cells now done b1 b2 g → Runs old new cells now done b1 b2 (λ s. if not (f s.valuation == 0) then g s else h s)
   runs-known-other {old} {first} {new} {f = f} {b1 = b1} {b2 = b2} {g = g} h m e z q = record {
     grows = grows-trans old first new m.grows q.grows;
@@ -171,7 +176,8 @@ module _ {cells : List Cell} where
         F (map (aim_place w S) as') (number w x) ≡ F (places v (pieces S target)) (assigned v (bits_in (places v (pieces S target))) (reading S e).meaning)
     written-is w v o s F = ap (λ ps. F ps (number w x)) (p.aims w v o s) ∙ ap (F (places v (pieces S target))) (p.is w v o s)
 
-    kept : {new : Net} {done done' : List ℕ} (w : World) (s : State) (u : Valuation) → MayWrite mid new S cells done done' as' x → Obeys new w → Shows w cells now s.valuation → 1 ≤ length done → Shows w cells done (applied u s.pending) →
+    kept : {new : Net} {done done' : List ℕ} (w : World) (s : State) (u : Valuation) → MayWrite mid new S cells done done' as' x → Obeys new w → Shows w cells now s.valuation → 1 ≤ length done →
+        Shows w cells done (applied u s.pending) →
         Shows w cells done' (applied u (keeps_later S target e s).pending)
     kept {new} {done} {done'} w s u d o t l y =
         let v : Valuation = s.valuation in
@@ -189,7 +195,8 @@ module _ {cells : List Cell} where
       leaves = λ w s u o t l y. kept w s u d o t l y;
     }
 
-    pub runs-now : {last new : Net} {done done' now' : List ℕ} → MayWrite mid last S cells done done' as' x → Writes last new S cells now now' as' x → Runs old new cells now done now' done' (keeps_now S target e)
+    pub runs-now : {last new : Net} {done done' now' : List ℕ} → MayWrite mid last S cells done done' as' x → Writes last new S cells now now' as' x →
+        Runs old new cells now done now' done' (keeps_now S target e)
     runs-now {last} {new} {now' = now'} d r = record {
       grows = grows-trans old mid new p.grows (grows-trans mid last new d.grows r.grows);
       table = r.table;
@@ -203,7 +210,8 @@ module _ {cells : List Cell} where
     }
 
   -- without a table of what is left
-  pub runs-no-later : {net : Net} {now done : List ℕ} (S : Signals) (target : FlatTarget) (e : FlatExpr) → IsTable net cells now → length done ≡ 0 → Runs net net cells now done now done (keeps_later S target e)
+  pub runs-no-later : {net : Net} {now done : List ℕ} (S : Signals) (target : FlatTarget) (e : FlatExpr) → IsTable net cells now → length done ≡ 0 →
+      Runs net net cells now done now done (keeps_later S target e)
   runs-no-later {net} S target e h z = record {
     grows = grows-refl net;
     table = h;
@@ -214,7 +222,8 @@ module _ {cells : List Cell} where
   }
 
   -- a write to a table that is there, or to none
-  pub writes-some : {old new : Net} {S : Signals} {t u : List ℕ} {as' : List Aim} {x : Value} → MayBeTable old cells t → 1 ≤ length t → Writes old new S cells t u as' x → MayWrite old new S cells t u as' x
+  pub writes-some : {old new : Net} {S : Signals} {t u : List ℕ} {as' : List Aim} {x : Value} → MayBeTable old cells t → 1 ≤ length t → Writes old new S cells t u as' x →
+      MayWrite old new S cells t u as' x
   writes-some m l r = record { grows = r.grows; count = r.table.count ∙ sym (m.is l).count; rest = record { is = λ i. r.table }; is = λ w v o i s. r.is w v o s }
 
   pub writes-none : {net : Net} (S : Signals) (t : List ℕ) (as' : List Aim) (x : Value) → length t ≡ 0 → MayWrite net net S cells t t as' x

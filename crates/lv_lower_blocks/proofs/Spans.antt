@@ -31,7 +31,8 @@ module _ (d : Declared) (v : Valuation) where
   SameElement (Some b) e f = e ≡ f
 
   pub place-is : (o : Option Bounds) (xs : List Chosen) (e bits : Option Span) → SameElement o e (first_span v xs) → bits ≡ first_span v (bit_selects o xs) → place_at o d e bits ≡ place_by o d xs v
-  place-is None xs e bits h i = ap (λ (o : Option Span). let p : Place = record { name = d.path; bits = bits_at d o } in p) i ∙ ap (λ (ks : List (Option ℕ)). let p : Place = record { name = d.path; bits = ks } in p) (sym (bits-are xs))
+  place-is None xs e bits h i = ap (λ (o : Option Span). let p : Place = record { name = d.path; bits = bits_at d o } in p) i ∙
+      ap (λ (ks : List (Option ℕ)). let p : Place = record { name = d.path; bits = ks } in p) (sym (bits-are xs))
   place-is (Some b) [] e bits h i = ap (λ (o : Option Span). place_at (Some b) d o bits) h ∙ ap (λ (o : Option Span). nowhere_place (bits_at d o)) i
   place-is (Some b) (x ∷ xs) e bits h i =
       ap (λ (o : Option Span). place_at (Some b) d o bits) h ∙ (ap (λ (o : Option Span). element_at d b (lowest x v) (bits_at d o)) i ∙ sym (element-is b (lowest x v) xs))
@@ -73,7 +74,8 @@ span-spot w W (Some s) = refl
 pub aim-count : (w : World) (S : Signals) (a : Aim) → length (aim_place w S a).bits ≡ aim_width S a
 aim-count w S a =
     let d : Declared = signal_at S a.signal in
-    aimed-count (is_signal_sort d.sort) (place_at d.array d (span_of w a.element) (span_of w a.bits)) ∙ (place-count d.array d (span_of w a.element) (span_of w a.bits) ∙ span-spot w (width_of d) a.bits)
+    aimed-count (is_signal_sort d.sort) (place_at d.array d (span_of w a.element) (span_of w a.bits)) ∙ (place-count d.array d (span_of w a.element) (span_of w a.bits) ∙
+    span-spot w (width_of d) a.bits)
 
 first-count : (v : Valuation) (W : ℕ) (xs : List Chosen) → span_width W (first_span v xs) ≡ chosen_width W xs
 first-count v W [] = refl
@@ -82,7 +84,8 @@ first-count v W (x ∷ xs) = refl
 -- of a name with selects
 pub named-count : (d : Declared) (xs : List Chosen) (v : Valuation) → length (aimed (is_signal_sort d.sort) (place_of d xs v)).bits ≡ chosen_width (width_of d) (bit_selects d.array xs)
 named-count d xs v =
-    aimed-count (is_signal_sort d.sort) (place_of d xs v) ∙ (ap (λ (p : Place). length p.bits) (sym (place-is d v d.array xs (first_span v xs) (first_span v (bit_selects d.array xs)) (itself d.array) refl)) ∙
+    aimed-count (is_signal_sort d.sort) (place_of d xs v) ∙ (ap (λ (p : Place). length p.bits) (sym (place-is d v d.array xs (first_span v xs) (first_span v (bit_selects d.array xs))
+    (itself d.array) refl)) ∙
     (place-count d.array d (first_span v xs) (first_span v (bit_selects d.array xs)) ∙ first-count v (width_of d) (bit_selects d.array xs)))
   where
     itself : (o : Option Bounds) → SameElement d v o (first_span v xs) (first_span v xs)

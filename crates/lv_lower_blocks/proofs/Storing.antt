@@ -61,7 +61,8 @@ module _ {cells : List Cell} where
   written-none {net} S as' x h = record { grows = grows-refl net; table = h; is = λ w v o s. (v, s, refl) }
 
   -- one aim more
-  pub written-more : {old mid last new : Net} {t u z : List ℕ} {y : Value} (S : Signals) (as' : List Aim) (i : ℕ) (a : Aim) (x q : Value) (left n j : ℕ) → q ≡ x → i < length as' → a ≡ get_or as' i a → j ≡ i + 1 →
+  pub written-more : {old mid last new : Net} {t u z : List ℕ} {y : Value} (S : Signals) (as' : List Aim) (i : ℕ) (a : Aim) (x q : Value) (left n j : ℕ) → q ≡ x → i < length as' →
+      a ≡ get_or as' i a → j ≡ i + 1 →
       left ≡ aims_width S (drop (i + 1) as') → n ≡ aim_width S a → Written old mid S cells t u as' i x → Gives mid last y n (λ w. number w q / 2 ^ left % 2 ^ n) → Puts last new S cells u z a y →
       Written old new S cells t z as' j x
   written-more {old} {mid} {last} {new} {t} {u} {z} {y} S as' i a x q left n j same lt e k l m r g p = record {
@@ -105,7 +106,8 @@ module _ {cells : List Cell} where
       means-same (means-one (λ n. n / 2 ^ 0 % 2 ^ width) a g) refl (λ v.
       low (m.value wide of.1 v) width ∙ (ap (λ (n : ℕ). m.value n of.1 v % 2 ^ width) k ∙ ap (λ (p : ℕ × Bool). m.value (max width m.width) p.1 v % 2 ^ width) e))
 
-  pub prepares : {old mid new : Net} {table : List ℕ} {x : Value} {as' : List Aim} (S : Signals) (target : FlatTarget) (e : FlatExpr) (width : ℕ) → width ≡ aims_width S as' → Aims old mid S cells table (pieces S target) [] as' →
+  pub prepares : {old mid new : Net} {table : List ℕ} {x : Value} {as' : List Aim} (S : Signals) (target : FlatTarget) (e : FlatExpr) (width : ℕ) → width ≡ aims_width S as' →
+      Aims old mid S cells table (pieces S target) [] as' →
       Means mid new x cells table width (λ v. assigned v width (meaning S e)) → Prepares old new S cells table target e as' x
   prepares {old} {mid} {new} {as' = as'} S target e width h a m =
       let n : width ≡ target_bits S target = h ∙ (let z = a.width in omega (arith, z)) in
@@ -118,7 +120,8 @@ module _ {cells : List Cell} where
         is = λ w v o s. m.is w v o s ∙ ap (λ k. assigned v k (meaning S e)) (n ∙ sym (bits_fixed v (pieces S target)));
       }
 
-  pub stores : {old mid new : Net} {t u : List ℕ} {x : Value} {as' : List Aim} (S : Signals) (target : FlatTarget) → Aims old mid S cells t (pieces S target) [] as' → Writes mid new S cells t u as' x →
+  pub stores : {old mid new : Net} {t u : List ℕ} {x : Value} {as' : List Aim} (S : Signals) (target : FlatTarget) → Aims old mid S cells t (pieces S target) [] as' →
+      Writes mid new S cells t u as' x →
       Stores old new S cells t u target x
   stores {old} {mid} {new} {t} {u} {x} {as'} S target a r = record {
     grows = grows-trans old mid new a.grows r.grows;
@@ -126,7 +129,8 @@ module _ {cells : List Cell} where
     is = λ w v o s. subst (λ (ps : List Place). Shows w cells u (write_all v ps (number w x))) (a.is w v (obeys-before mid new w r.grows o) s) (r.is w v o s);
   }
 
-  pub assigns : {old mid new : Net} {t u : List ℕ} {x : Value} {as' : List Aim} (S : Signals) (target : FlatTarget) (e : FlatExpr) → Prepares old mid S cells t target e as' x → Writes mid new S cells t u as' x →
+  pub assigns : {old mid new : Net} {t u : List ℕ} {x : Value} {as' : List Aim} (S : Signals) (target : FlatTarget) (e : FlatExpr) → Prepares old mid S cells t target e as' x →
+      Writes mid new S cells t u as' x →
       Assigns old new S cells t u target e
   assigns {old} {mid} {new} {t} {u} {x} {as'} S target e a r = record {
     grows = grows-trans old mid new a.grows r.grows;

@@ -1,5 +1,6 @@
 -- A target whose indices are values of a graph.
-use Rattle.std.specs.Prelude.{◌≡◌, ℕ, ◌+◌, ◌-◌, ◌≤◌, ◌==◌, Bool, true, false, if◌then◌else◌, List, [], ◌∷◌, ◌++◌, map, All, Option, Some, None, ℤ, pos, negsuc, ◌-ℤ◌, sum_by, drop, length, slice_index, flat_map, decimal}
+use Rattle.std.specs.Prelude.{◌≡◌, ℕ, ◌+◌, ◌-◌, ◌≤◌, ◌==◌, Bool, true, false, if◌then◌else◌, List, [], ◌∷◌, ◌++◌, map, All, Option, Some, None, ℤ, pos, negsuc, ◌-ℤ◌, sum_by, drop, length}
+use Rattle.std.specs.Prelude.{slice_index, flat_map, decimal}
 use Rattle.lv_ast.specs.Names.{at_index}
 use Rattle.lv_netlist.specs.Net.{Net}
 use Rattle.lv_source.specs.Names.{Bounds, Declared, Valuation, low, high, size, width_of, is_signal_sort}

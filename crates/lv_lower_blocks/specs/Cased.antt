@@ -94,7 +94,8 @@ pub record ArmsRun (old new : Net) (cells : List Cell) (now done base_now base_d
   pub count : length done' ≡ length done
   pub rest : MayBeTable new cells done'
   pub shows : (w : World) (s q : State) → Obeys new w → Shows w cells now s.valuation → Shows w cells base_now q.valuation → Shows w cells now' (G (number w selector) s q).valuation
-  pub leaves : (w : World) (s q : State) (u : Valuation) → Obeys new w → Shows w cells now s.valuation → 1 ≤ length done → Shows w cells done (applied u s.pending) → Shows w cells base_done (applied u q.pending) →
+  pub leaves : (w : World) (s q : State) (u : Valuation) → Obeys new w → Shows w cells now s.valuation → 1 ≤ length done → Shows w cells done (applied u s.pending) →
+      Shows w cells base_done (applied u q.pending) →
       Shows w cells done' (applied u (G (number w selector) s q).pending)
 
 -- no label of the arms is wider

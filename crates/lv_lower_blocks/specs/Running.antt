@@ -1,7 +1,10 @@
 -- The writes of a statement, and what it leaves of tables.
-use Rattle.std.specs.Prelude.{◌≡◌, ℕ, ◌≤◌, List, [], ◌∷◌, length, Option, Some, None, Bool, true}
+use Rattle.std.specs.Prelude.{◌≡◌, ◌⊎◌, ℕ, ◌≤◌, Bool, true, false, List, [], ◌∷◌, length, Option, Some, None, All, flat_map}
 use Rattle.lv_netlist.specs.Net.{Net}
 use Rattle.lv_source.specs.Names.{Valuation}
+use Rattle.lv_source.specs.Places.{Bit, has_bit, place_bits}
+use Rattle.lv_source.specs.Flow.{Event}
+use Rattle.lv_flat.specs.Flows.{flow}
 use Rattle.lv_source.specs.Effect.{Piece, State, Update, Arm, places, write_all, now_of, later_of, applied, left_of}
 use Rattle.lv_source.specs.Meaning.{Reading}
 use Rattle.lv_flat.specs.declared.part.FlatBody.TheVariants.{Assign}
@@ -93,3 +96,17 @@ pub record Clocks (old new : Net) (S : Signals) (cells : List Cell) (now done do
   pub grows : Grows old new
   pub table : IsTable new cells done'
   pub is : (w : World) (v u : Valuation) → Obeys new w → Shows w cells now v → Shows w cells done u → Shows w cells done' (applied u (writes_from S s v))
+
+-- ---- bits
+
+-- no `=` writes the bit
+abbrev pub OnceSpares : Bit → Event → Type 0
+OnceSpares b e = e.at_once ≡ true → (v : Valuation) → has_bit (flat_map place_bits (places v e.targets)) b ≡ false
+
+-- no `<=` writes it
+abbrev pub LaterSpares : Bit → Event → Type 0
+LaterSpares b e = e.at_once ≡ false → (v : Valuation) → has_bit (flat_map place_bits (places v e.targets)) b ≡ false
+
+-- not both write it
+abbrev pub IsUnmixed : Signals → FlatStmt → Bit → Type 0
+IsUnmixed S s b = All (OnceSpares b) (flow S s).events ⊎ All (LaterSpares b) (flow S s).events

@@ -6,9 +6,11 @@ mod assigns;
 mod blocks;
 mod bodies;
 mod cases;
+mod laws;
 mod merge;
 mod puts;
 
 pub use assigns::{assign, store};
 pub use blocks::execute;
 pub use bodies::{clocked, combinational};
+pub use laws::writes_leave_bits;

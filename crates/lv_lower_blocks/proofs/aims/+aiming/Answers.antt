@@ -28,7 +28,8 @@ aim_at-requires-clause-good t c =
 pub aim_at-requires-clause-shaped : goal.aim_at-requires-clause-shaped
 aim_at-requires-clause-shaped t c =
     let S = declared_all c.args.signals.now in
-    subst (λ (z : List FlatSelect). HasElement S (signal_at S c.in-Signal.name.signal).array z) (sym c.as_slice.ensures) (good-name S c.args.target.now c.in-Signal.name c.in-Signal.ss c.in-Signal.is c.requires.target).shaped
+    subst (λ (z : List FlatSelect). HasElement S (signal_at S c.in-Signal.name.signal).array z) (sym c.as_slice.ensures)
+    (good-name S c.args.target.now c.in-Signal.name c.in-Signal.ss c.in-Signal.is c.requires.target).shaped
 
 pub aim_at-requires-clause-some : goal.aim_at-requires-clause-some
 aim_at-requires-clause-some t c =
@@ -45,9 +46,16 @@ aim_at-requires-clause-most t c =
 pub aims-requires : goal.aims-requires
 aims-requires t c =
     let S = declared_all c.args.signals.now in
-    let h = subst (λ (z : List FlatTarget). list_all (λ (y : Bool). y) (map (are_targets S) z) ≡ true) (sym c.as_slice-ts.ensures) (parts-good S c.args.target.now c.in-Cat.ts c.in-Cat.is c.requires.target) in
-    let g = part-good S c.as_slice-ts.result.now c.loop-t.t-index c.t-item.result c.loop-t-test.true h in
-    (search (rules, the_lemmas), (subst (λ (z : FlatTarget). are_targets S z ≡ true) (sym c.t-item.is) g, (c.loop-t.invariant.good, (c.requires.first, table-later c.loop-t.invariant.grows c.requires.table))))
+    let h = subst (λ (z : List FlatTarget). list_all (λ (y : Bool). y) (map (are_targets S) z) ≡ true) (sym c.as_slice-ts.ensures)
+    (parts-good S c.args.target.now c.in-Cat.ts c.in-Cat.is c.requires.target) in
+    let g = part-good S c.as_slice-ts.result.now c.loop-t.t-index c.t-item.result c.loop-t-test.true h in (
+      search (rules, the_lemmas),
+      (
+        subst (λ (z : FlatTarget). are_targets S z ≡ true)
+            (sym c.t-item.is) g,
+        (c.loop-t.invariant.good, (c.requires.first, table-later c.loop-t.invariant.grows c.requires.table)),
+      ),
+    )
 
 pub loop-t-preserved : goal.loop-t-preserved
 loop-t-preserved t c =
@@ -69,4 +77,5 @@ pub returns-after-loop-t : goal.returns-after-loop-t
 returns-after-loop-t t c =
     let S = declared_all c.args.signals.now in
     aims-same c.loop-t.invariant
-    (ap (pieces_all S) (take-past c.as_slice-ts.result.now c.loop-t.t-index c.loop-t-test.false) ∙ (ap (pieces_all S) c.as_slice-ts.ensures ∙ sym (ap (λ (z : FlatTarget). pieces S z) c.in-Cat.is ∙ pieces-Cat S c.in-Cat.ts)))
+    (ap (pieces_all S) (take-past c.as_slice-ts.result.now c.loop-t.t-index c.loop-t-test.false) ∙ (ap (pieces_all S) c.as_slice-ts.ensures ∙
+    sym (ap (λ (z : FlatTarget). pieces S z) c.in-Cat.is ∙ pieces-Cat S c.in-Cat.ts)))

@@ -26,8 +26,11 @@ returns-in_ok-bits-in-len1-up c =
     let wide : width_of d ≡ c.signal_width.result = ap width_of c.signal_of-signal.ensures ∙ sym c.signal_width.ensures.is in
     let chosen : bit_selects d.array (map (chosen_by S) c.args.ss.now) ≡ map (chosen_by S) rest =
     ap (λ (o : Option Bounds). bit_selects o (map (chosen_by S) c.args.ss.now)) bounds ∙ ap (λ (z : List FlatSelect). bit_selects (Some b) (map (chosen_by S) z)) split in
-    subst (λ (z : List FlatSelect). Names c.args.b.now c.first_spot-in-len1-up.new.b S (all_cells S) c.args.table.now k (map (chosen_by S) z) (let a : Aim = record { signal = k; element = Some c.in_ok-element-in-len1-up.element; bits = c.in_ok-bits-in-len1-up.bits } in a)) (sym split)
+    subst (λ (z : List FlatSelect). Names c.args.b.now c.first_spot-in-len1-up.new.b S (all_cells S) c.args.table.now k (map (chosen_by S) z)
+    (let a : Aim = record { signal = k; element = Some c.in_ok-element-in-len1-up.element; bits = c.in_ok-bits-in-len1-up.bits } in a)) (sym split)
     (names-element S k (chosen_by S s) (map (chosen_by S) rest) b c.requires.signal (omega (arith, wide, c.signal_width.ensures.some)) (omega (arith, wide, c.signal_width.ensures.most))
-    (subst (λ (z : List Chosen). 1 ≤ chosen_width 1 z) chosen c.requires.some) (subst (λ (z : List Chosen). chosen_width 1 z ≤ 128) chosen c.requires.most) bounds (c.in_ok-element-in-len1-up.ensures.down one)
+    (subst (λ (z : List Chosen). 1 ≤ chosen_width 1 z) chosen c.requires.some)
+    (subst (λ (z : List Chosen). chosen_width 1 z ≤ 128) chosen c.requires.most) bounds (c.in_ok-element-in-len1-up.ensures.down one)
     c.in_ok-element-in-len1-up.ensures.is
-    (subst (λ (z : List FlatSelect). Spots c.spot_of.new.b c.first_spot-in-len1-up.new.b (all_cells S) c.args.table.now c.in_ok-bits-in-len1-up.bits (map (chosen_by S) z)) (rest-all c.args.ss.now) c.in_ok-bits-in-len1-up.ensures))
+    (subst (λ (z : List FlatSelect). Spots c.spot_of.new.b c.first_spot-in-len1-up.new.b (all_cells S) c.args.table.now c.in_ok-bits-in-len1-up.bits (map (chosen_by S) z))
+    (rest-all c.args.ss.now) c.in_ok-bits-in-len1-up.ensures))

@@ -37,7 +37,8 @@ pub returns-in_ok-r-in-Bit-clause-is : goal.returns-in_ok-r-in-Bit-clause-is
 returns-in_ok-r-in-Bit-clause-is c =
     let S = declared_all c.args.signals.now in
     let e = c.in-Bit.e in
-    begins-same c.in_ok-r-in-Bit.ensures.is (λ v. ap (λ (z : FlatExpr). number_of (meaning S z) v -ℤ pos 0) c.get.ensures ∙ (minus-none (number_of (meaning S e) v) ∙ lowest-Bit S c.args.s.now e v c.in-Bit.is))
+    begins-same c.in_ok-r-in-Bit.ensures.is (λ v. ap (λ (z : FlatExpr). number_of (meaning S z) v -ℤ pos 0) c.get.ensures ∙ (minus-none (number_of (meaning S e) v) ∙
+    lowest-Bit S c.args.s.now e v c.in-Bit.is))
     (sym (count-Bit S c.args.s.now e c.in-Bit.is))
 
 pub returns-in-Part-clause-is : goal.returns-in-Part-clause-is
@@ -50,20 +51,23 @@ returns-in-Part-clause-is c =
       some = omega (arith, ap (λ w. w.width) word);
       most = omega (arith, ap (λ w. w.width) word);
       near = omega arith;
-    }) c.count.ensures (λ w v. minus-none (pos c.new-word.result.value) ∙ (ap (λ w. pos w.value) word ∙ (ap pos (c.from.ensures ∙ c.min-low.ensures) ∙ lowest-Part S c.args.s.now c.in-Part.left c.in-Part.right v c.in-Part.is)))
+    }) c.count.ensures (λ w v. minus-none (pos c.new-word.result.value) ∙ (ap (λ w. pos w.value) word ∙ (ap pos (c.from.ensures ∙ c.min-low.ensures) ∙
+    lowest-Part S c.args.s.now c.in-Part.left c.in-Part.right v c.in-Part.is)))
 
 pub returns-in_ok-r-in-Up-clause-is : goal.returns-in_ok-r-in-Up-clause-is
 returns-in_ok-r-in-Up-clause-is c =
     let S = declared_all c.args.signals.now in
     let e = c.in-Up.e in
-    begins-same c.in_ok-r-in-Up.ensures.is (λ v. ap (λ (z : FlatExpr). number_of (meaning S z) v -ℤ pos 0) c.get-in-Up.ensures ∙ (minus-none (number_of (meaning S e) v) ∙ lowest-Up S c.args.s.now e c.in-Up.n v c.in-Up.is))
+    begins-same c.in_ok-r-in-Up.ensures.is (λ v. ap (λ (z : FlatExpr). number_of (meaning S z) v -ℤ pos 0) c.get-in-Up.ensures ∙ (minus-none (number_of (meaning S e) v) ∙
+    lowest-Up S c.args.s.now e c.in-Up.n v c.in-Up.is))
     (sym (count-Up S c.args.s.now e c.in-Up.n c.in-Up.is))
 
 pub returns-in_ok-r-in-Down-clause-is : goal.returns-in_ok-r-in-Down-clause-is
 returns-in_ok-r-in-Down-clause-is c =
     let S = declared_all c.args.signals.now in
     let e = c.in-Down.e in
-    begins-same c.in_ok-r-in-Down.ensures.is (λ v. ap (λ (z : FlatExpr). number_of (meaning S z) v -ℤ pos (c.in-Down.n - 1)) c.get-in-Down.ensures ∙ lowest-Down S c.args.s.now e c.in-Down.n v c.in-Down.is)
+    begins-same c.in_ok-r-in-Down.ensures.is (λ v. ap (λ (z : FlatExpr). number_of (meaning S z) v -ℤ pos (c.in-Down.n - 1)) c.get-in-Down.ensures ∙
+    lowest-Down S c.args.s.now e c.in-Down.n v c.in-Down.is)
     (sym (count-Down S c.args.s.now e c.in-Down.n c.in-Down.is))
 
 pub returns-in_ok-r-in-Down-clause-down : goal.returns-in_ok-r-in-Down-clause-down

@@ -97,7 +97,8 @@ execute-assign_now-requires-clause-good t c =
 pub execute-returns-in-Now : goal.execute-returns-in-Now
 execute-returns-in-Now t c =
     let S = declared_all c.args.signals.now in
-    on_ok c.assign_now.result (λ r. runs-same r (λ st. ap (λ (z : FlatExpr). keeps_now S c.in-Now.target z st) c.get.ensures ∙ now-keeps S c.args.s.now c.in-Now.target c.in-Now.e c.in-Now.field-2 c.in-Now.is st)) c.assign_now.ensures
+    on_ok c.assign_now.result (λ r. runs-same r (λ st. ap (λ (z : FlatExpr). keeps_now S c.in-Now.target z st) c.get.ensures ∙
+    now-keeps S c.args.s.now c.in-Now.target c.in-Now.e c.in-Now.field-2 c.in-Now.is st)) c.assign_now.ensures
 
 pub execute-assign_later-requires-clause-target : goal.execute-assign_later-requires-clause-target
 execute-assign_later-requires-clause-target t c = (later-good (declared_all c.args.signals.now) c.args.s.now c.in-Later.target c.in-Later.e c.in-Later.field-2 c.in-Later.is c.requires.good).0
@@ -110,7 +111,8 @@ execute-assign_later-requires-clause-good t c =
 pub execute-returns-in-Later : goal.execute-returns-in-Later
 execute-returns-in-Later t c =
     let S = declared_all c.args.signals.now in
-    on_ok c.assign_later.result (λ r. runs-same r (λ st. ap (λ (z : FlatExpr). keeps_later S c.in-Later.target z st) c.get-in-Later.ensures ∙ later-keeps S c.args.s.now c.in-Later.target c.in-Later.e c.in-Later.field-2 c.in-Later.is st)) c.assign_later.ensures
+    on_ok c.assign_later.result (λ r. runs-same r (λ st. ap (λ (z : FlatExpr). keeps_later S c.in-Later.target z st) c.get-in-Later.ensures ∙
+    later-keeps S c.args.s.now c.in-Later.target c.in-Later.e c.in-Later.field-2 c.in-Later.is st)) c.assign_later.ensures
 
 pub execute-execute_or-requires-in-Node : goal.execute-execute_or-requires-in-Node
 execute-execute_or-requires-in-Node t c =
@@ -124,8 +126,10 @@ execute-execute_or-requires-in-Node t c =
         (
           c.requires.first,
           (
-            subst (λ (z : List ℕ). IsTable c.execute-in-Node.new.b (all_cells S) z) (sym (c.as_mut_slice.ensures.value ∙ c.in_ok-other_now-in-Node.ensures)) (table-later more (table-later grow c.requires.now)),
-            subst (λ (z : List ℕ). MayBeTable c.execute-in-Node.new.b (all_cells S) z) (sym (c.as_mut_slice-in-Node.ensures.value ∙ c.in_ok-other_done-in-Node.ensures)) (may-be-later more (may-be-later grow c.requires.done)),
+            subst (λ (z : List ℕ). IsTable c.execute-in-Node.new.b (all_cells S) z) (sym (c.as_mut_slice.ensures.value ∙
+                c.in_ok-other_now-in-Node.ensures)) (table-later more (table-later grow c.requires.now)),
+            subst (λ (z : List ℕ). MayBeTable c.execute-in-Node.new.b (all_cells S) z) (sym (c.as_mut_slice-in-Node.ensures.value ∙
+                c.in_ok-other_done-in-Node.ensures)) (may-be-later more (may-be-later grow c.requires.done)),
           ),
         ),
       ),
@@ -170,7 +174,8 @@ execute-merge-requires-clause-alike t c =
 
 pub execute-merge-requires-in-Node-clause-alike : goal.execute-merge-requires-in-Node-clause-alike
 execute-merge-requires-in-Node-clause-alike t c =
-    let e : c.as_slice-in-Node-2.result.now ≡ c.execute_or-in-Node.new.done = c.as_slice-in-Node-2.ensures.value ∙ taken _ _ _ (omega (arith, c.execute_or-in-Node.auto.done, c.as_mut_slice-in-Node.ensures.len)) in
+    let e : c.as_slice-in-Node-2.result.now ≡ c.execute_or-in-Node.new.done = c.as_slice-in-Node-2.ensures.value ∙
+    taken _ _ _ (omega (arith, c.execute_or-in-Node.auto.done, c.as_mut_slice-in-Node.ensures.len)) in
     let copied : c.as_mut_slice-in-Node.result.now ≡ c.args.done.now = c.as_mut_slice-in-Node.ensures.value ∙ c.in_ok-other_done-in-Node.ensures in
     let same : length c.execute-in-Node.new.done ≡ length c.execute_or-in-Node.new.done = c.in_ok-execute-in-Node.ensures.count ∙ sym (c.in_ok-execute_or-in-Node.ensures.count ∙ ap length copied) in
     let grow = c.in_ok-merge-in-Node.ensures.grows in
@@ -185,11 +190,14 @@ execute-returns-in_ok-merge-in-Node t c =
     let p = runs-same c.in_ok-execute-in-Node.ensures (λ st. ap (λ (z : FlatStmt). keeps_writes S z st) c.get-yes.ensures) in
     let now_is : c.as_mut_slice.result.now ≡ c.args.now.now = c.as_mut_slice.ensures.value ∙ c.in_ok-other_now-in-Node.ensures in
     let done_is : c.as_mut_slice-in-Node.result.now ≡ c.args.done.now = c.as_mut_slice-in-Node.ensures.value ∙ c.in_ok-other_done-in-Node.ensures in
-    let q0 = subst (λ (z : List ℕ). Runs c.execute-in-Node.new.b c.execute_or-in-Node.new.b cells z c.as_mut_slice-in-Node.result.now c.execute_or-in-Node.new.now c.execute_or-in-Node.new.done (keeps_or S c.in-If.else_)) now_is
+    let q0 = subst (λ (z : List ℕ). Runs c.execute-in-Node.new.b c.execute_or-in-Node.new.b cells z c.as_mut_slice-in-Node.result.now c.execute_or-in-Node.new.now c.execute_or-in-Node.new.done
+    (keeps_or S c.in-If.else_)) now_is
     c.in_ok-execute_or-in-Node.ensures in
-    let q = subst (λ (z : List ℕ). Runs c.execute-in-Node.new.b c.execute_or-in-Node.new.b cells c.args.now.now z c.execute_or-in-Node.new.now c.execute_or-in-Node.new.done (keeps_or S c.in-If.else_)) done_is q0 in
+    let q = subst (λ (z : List ℕ). Runs c.execute-in-Node.new.b c.execute_or-in-Node.new.b cells c.args.now.now z c.execute_or-in-Node.new.now c.execute_or-in-Node.new.done
+    (keeps_or S c.in-If.else_)) done_is q0 in
     let e1 : c.as_slice-in-Node.result.now ≡ c.execute_or-in-Node.new.now = c.as_slice-in-Node.ensures.value ∙ taken _ _ _ (omega (arith, c.execute_or-in-Node.auto.now, c.as_mut_slice.ensures.len)) in
-    let e2 : c.as_slice-in-Node-2.result.now ≡ c.execute_or-in-Node.new.done = c.as_slice-in-Node-2.ensures.value ∙ taken _ _ _ (omega (arith, c.execute_or-in-Node.auto.done, c.as_mut_slice-in-Node.ensures.len)) in
+    let e2 : c.as_slice-in-Node-2.result.now ≡ c.execute_or-in-Node.new.done = c.as_slice-in-Node-2.ensures.value ∙
+    taken _ _ _ (omega (arith, c.execute_or-in-Node.auto.done, c.as_mut_slice-in-Node.ensures.len)) in
     let j1 = subst (λ (z : List ℕ). Merges c.execute_or-in-Node.new.b c.merge.new.b c.in-Node.k c.execute-in-Node.new.now z c.merge.new.table) e1 c.in_ok-merge-in-Node.ensures in
     on_ok c.merge-in-Node.result (λ j. runs-same
     (runs-if m c.in-Node.is p q j1 (subst (λ (z : List ℕ). Merges c.merge.new.b c.merge-in-Node.new.b c.in-Node.k c.execute-in-Node.new.done z c.merge-in-Node.new.table) e2 j))
@@ -203,8 +211,10 @@ base-returns-then-at-arms t c =
     let cells = all_cells S in
     let n = no-default S c.args.arms.now (λ (z : State). z) (c.default_at-at.ensures.none c.if-at-arms.true) in
     let r = runs-same (runs-none c.requires.now c.requires.done) (λ st. ap (λ (f : State → State). f st) (sym n)) in
-    subst (λ (z : List ℕ). Runs c.args.b.now c.args.b.now cells c.args.now.now c.args.done.now z c.in_ok-a_done.a_done.items (λ st. last_default (arms_read S c.args.arms.now) (λ s. s) st)) (sym c.in_ok-a_now.ensures)
-    (subst (λ (z : List ℕ). Runs c.args.b.now c.args.b.now cells c.args.now.now c.args.done.now c.args.now.now z (λ st. last_default (arms_read S c.args.arms.now) (λ s. s) st)) (sym c.in_ok-a_done.ensures) r)
+    subst (λ (z : List ℕ). Runs c.args.b.now c.args.b.now cells c.args.now.now c.args.done.now z c.in_ok-a_done.a_done.items (λ st. last_default (arms_read S c.args.arms.now) (λ s. s) st))
+    (sym c.in_ok-a_now.ensures)
+    (subst (λ (z : List ℕ). Runs c.args.b.now c.args.b.now cells c.args.now.now c.args.done.now c.args.now.now z (λ st. last_default (arms_read S c.args.arms.now) (λ s. s) st))
+    (sym c.in_ok-a_done.ensures) r)
 
 pub base-returns : goal.base-returns
 base-returns t c =
@@ -236,7 +246,8 @@ choose_arm-execute-requires t c =
           c.requires.first,
           (
             subst (λ (z : List ℕ). IsTable c.fits_one.new.b (all_cells S) z) (sym (c.as_mut_slice.ensures.value ∙ c.in_ok-a_now.ensures)) (table-later more (table-later grow c.requires.now)),
-            subst (λ (z : List ℕ). MayBeTable c.fits_one.new.b (all_cells S) z) (sym (c.as_mut_slice-then-not-is_zero.ensures.value ∙ c.in_ok-a_done.ensures)) (may-be-later more (may-be-later grow c.requires.done)),
+            subst (λ (z : List ℕ). MayBeTable c.fits_one.new.b (all_cells S) z) (sym (c.as_mut_slice-then-not-is_zero.ensures.value ∙
+                c.in_ok-a_done.ensures)) (may-be-later more (may-be-later grow c.requires.done)),
           ),
         ),
       ),
@@ -268,16 +279,20 @@ choose_arm-loop-i-preserved-then-not-is_zero t c =
     let k : c.loop-i.i ≡ i + 1 = omega (arith, c.loop-i-test.true) in
     let e1 : c.as_mut_slice.result.now ≡ c.args.now.now = c.as_mut_slice.ensures.value ∙ c.in_ok-a_now.ensures in
     let e2 : c.as_mut_slice-then-not-is_zero.result.now ≡ c.args.done.now = c.as_mut_slice-then-not-is_zero.ensures.value ∙ c.in_ok-a_done.ensures in
-    let r1 = subst (λ (z : List ℕ). Runs c.fits_one.new.b c.execute.new.b cells z c.as_mut_slice-then-not-is_zero.result.now c.execute.new.now c.execute.new.done (keeps_writes S a.body)) e1 c.in_ok-execute.ensures in
+    let r1 = subst (λ (z : List ℕ). Runs c.fits_one.new.b c.execute.new.b cells z c.as_mut_slice-then-not-is_zero.result.now c.execute.new.now c.execute.new.done
+    (keeps_writes S a.body)) e1 c.in_ok-execute.ensures in
     let r2 = subst (λ (z : List ℕ). Runs c.fits_one.new.b c.execute.new.b cells c.args.now.now z c.execute.new.now c.execute.new.done (keeps_writes S a.body)) e2 r1 in
-    let pn = subst (λ (z : List ℕ). Picks c.execute.new.b c.choose_tables.new.b c.in_ok-t.t z c.loop-i.tables.now.items c.in_ok-tables.tables.now.items) (taken _ _ _ (omega (arith, c.execute.auto.now, c.as_mut_slice.ensures.len)))
+    let pn = subst (λ (z : List ℕ). Picks c.execute.new.b c.choose_tables.new.b c.in_ok-t.t z c.loop-i.tables.now.items c.in_ok-tables.tables.now.items)
+    (taken _ _ _ (omega (arith, c.execute.auto.now, c.as_mut_slice.ensures.len)))
     c.in_ok-tables.ensures.now in
-    let pd = subst (λ (z : List ℕ). Picks c.execute.new.b c.choose_tables.new.b c.in_ok-t.t z c.loop-i.tables.done.items c.in_ok-tables.tables.done.items) (taken _ _ _ (omega (arith, c.execute.auto.done, c.as_mut_slice-then-not-is_zero.ensures.len)))
+    let pd = subst (λ (z : List ℕ). Picks c.execute.new.b c.choose_tables.new.b c.in_ok-t.t z c.loop-i.tables.done.items c.in_ok-tables.tables.done.items)
+    (taken _ _ _ (omega (arith, c.execute.auto.done, c.as_mut_slice-then-not-is_zero.ensures.len)))
     c.in_ok-tables.ensures.done in
     record {
       inside = omega (arith, c.loop-i.invariant.inside);
       is = arms-same (arms-more c.loop-i.invariant.is c.in_ok-t.ensures r2 (chosen-of r2.table r2.rest pn pd)) (λ x s q.
-          ap (λ (ls : List FlatExpr). if list_any (fits_label s.valuation c.args.wild w x) (map (label_of S) ls) then keeps_writes S a.body s else arms_do S c.args.wild w (drop c.loop-i.i arms) x s q) c.as_slice.ensures ∙
+          ap (λ (ls : List FlatExpr). if list_any (fits_label s.valuation c.args.wild w x)
+          (map (label_of S) ls) then keeps_writes S a.body s else arms_do S c.args.wild w (drop c.loop-i.i arms) x s q) c.as_slice.ensures ∙
           (ap (λ (n : ℕ). if list_any (fits_label s.valuation c.args.wild w x) (labels_of S a) then keeps_writes S a.body s else arms_do S c.args.wild w (drop n arms) x s q) k ∙
           arms-next S c.args.wild w arms i a lt c.index-arms-i.is x s q));
     }
@@ -294,7 +309,8 @@ choose_arm-loop-i-preserved t c =
     record {
       inside = omega (arith, c.loop-i.invariant.inside);
       is = arms-same (arms-skip (keeps_writes S a.body) c.loop-i.invariant.is c.in_ok-t.ensures (c.is_zero.ensures (search (rules, c.if-not-is_zero.false)))) (λ x s q.
-          ap (λ (ls : List FlatExpr). if list_any (fits_label s.valuation c.args.wild w x) (map (label_of S) ls) then keeps_writes S a.body s else arms_do S c.args.wild w (drop c.loop-i.i arms) x s q) c.as_slice.ensures ∙
+          ap (λ (ls : List FlatExpr). if list_any (fits_label s.valuation c.args.wild w x)
+          (map (label_of S) ls) then keeps_writes S a.body s else arms_do S c.args.wild w (drop c.loop-i.i arms) x s q) c.as_slice.ensures ∙
           (ap (λ (n : ℕ). if list_any (fits_label s.valuation c.args.wild w x) (labels_of S a) then keeps_writes S a.body s else arms_do S c.args.wild w (drop n arms) x s q) k ∙
           arms-next S c.args.wild w arms i a lt c.index-arms-i.is x s q));
     }
@@ -307,7 +323,8 @@ execute-common_case-c-requires-clause-good t c =
 pub execute-common_case-c-requires-clause-labels : goal.execute-common_case-c-requires-clause-labels
 execute-common_case-c-requires-clause-labels t c =
     let S = declared_all c.args.signals.now in
-    subst (λ (z : List FlatArm). list_all (good_labels S) z ≡ true) (sym c.as_slice-arms.ensures) (labels-of-good S c.in-Case.arms (case-good S c.args.s.now c.in-Case.wild c.in-Case.x c.in-Case.arms c.in-Case.is c.requires.good).1)
+    subst (λ (z : List FlatArm). list_all (good_labels S) z ≡ true) (sym c.as_slice-arms.ensures)
+    (labels-of-good S c.in-Case.arms (case-good S c.args.s.now c.in-Case.wild c.in-Case.x c.in-Case.arms c.in-Case.is c.requires.good).1)
 
 pub execute-value-requires-in-Case-clause-good : goal.execute-value-requires-in-Case-clause-good
 execute-value-requires-in-Case-clause-good t c =
@@ -325,7 +342,8 @@ execute-value-requires-in-Case-clause-wide t c =
 pub execute-base-requires : goal.execute-base-requires
 execute-base-requires t c =
     let S = declared_all c.args.signals.now in
-    let g = subst (λ (z : List FlatArm). list_all (good_arm_of S) z ≡ true) (sym c.as_slice-arms.ensures) (case-good S c.args.s.now c.in-Case.wild c.in-Case.x c.in-Case.arms c.in-Case.is c.requires.good).1 in
+    let g = subst (λ (z : List FlatArm). list_all (good_arm_of S) z ≡ true) (sym c.as_slice-arms.ensures)
+    (case-good S c.args.s.now c.in-Case.wild c.in-Case.x c.in-Case.arms c.in-Case.is c.requires.good).1 in
     let grow = c.in_ok-selector-in-Case.ensures.is.grows in
     (search (rules, the_lemmas), (g, (c.requires.first, (table-later grow c.requires.now, may-be-later grow c.requires.done))))
 
@@ -335,7 +353,8 @@ execute-choose_arm-requires t c =
     let arms = c.as_slice-arms.result.now in
     let X = reading S c.get-e-in-Case.result.now in
     let W : Width = record { width = X.meaning.width; signed = X.meaning.signed } in
-    let g = subst (λ (z : List FlatArm). list_all (good_arm_of S) z ≡ true) (sym c.as_slice-arms.ensures) (case-good S c.args.s.now c.in-Case.wild c.in-Case.x c.in-Case.arms c.in-Case.is c.requires.good).1 in
+    let g = subst (λ (z : List FlatArm). list_all (good_arm_of S) z ≡ true) (sym c.as_slice-arms.ensures)
+    (case-good S c.args.s.now c.in-Case.wild c.in-Case.x c.in-Case.arms c.in-Case.is c.requires.good).1 in
     let w = ap (λ (z : Width). z.width) (c.common_case-c.ensures.is ∙ common-is X (flat_map (labels_of S) arms)) in
     let m = c.in_ok-selector-in-Case.ensures.is in
     let r = c.in_ok-start-in-Case.ensures in (
@@ -369,6 +388,7 @@ execute-returns-in_ok-tables-in-Case t c =
     let en : c.fill.new.table ≡ c.in_ok-tables-in-Case.tables.now.items = c.fill.ensures ∙ c.as_slice-in-Case.ensures.value in
     let ed : c.fill-in-Case.new.table ≡ c.in_ok-tables-in-Case.tables.done.items = c.fill-in-Case.ensures ∙ c.as_slice-in-Case-2.ensures.value in
     let r = runs-same (runs-case c.in_ok-selector-in-Case.ensures.is c.in_ok-start-in-Case.ensures c.in_ok-tables-in-Case.ensures)
-    (case-all S c.args.s.now c.in-Case.wild c.in-Case.x c.get-e-in-Case.result.now c.in-Case.arms c.as_slice-arms.result.now (common_width c.common_case-c.result) c.in-Case.is c.get-e-in-Case.ensures c.as_slice-arms.ensures c.common_case-c.ensures.is) in
+    (case-all S c.args.s.now c.in-Case.wild c.in-Case.x c.get-e-in-Case.result.now c.in-Case.arms c.as_slice-arms.result.now
+    (common_width c.common_case-c.result) c.in-Case.is c.get-e-in-Case.ensures c.as_slice-arms.ensures c.common_case-c.ensures.is) in
     subst (λ (z : List ℕ). Runs c.args.b.now c.choose_arm.new.b cells c.args.now.now c.args.done.now z c.fill-in-Case.new.table F) (sym en)
     (subst (λ (z : List ℕ). Runs c.args.b.now c.choose_arm.new.b cells c.args.now.now c.args.done.now c.in_ok-tables-in-Case.tables.now.items z F) (sym ed) r)

@@ -19,4 +19,5 @@ pub returns : goal.returns
 returns c =
     let S = declared_all c.args.signals.now in
     on_ok c.execute.result (λ r. clocks S c.args.s.now c.requires.done
-    (subst (λ (z : List ℕ). Runs c.args.b.now c.execute.new.b (all_cells S) z c.args.done.now c.execute.new.now c.execute.new.done (λ st. keeps_writes S c.args.s.now st)) (c.as_mut_slice.ensures.value ∙ c.in_ok-seen.ensures) r)) c.execute.ensures
+    (subst (λ (z : List ℕ). Runs c.args.b.now c.execute.new.b (all_cells S) z c.args.done.now c.execute.new.now c.execute.new.done (λ st. keeps_writes S c.args.s.now st))
+    (c.as_mut_slice.ensures.value ∙ c.in_ok-seen.ensures) r)) c.execute.ensures

@@ -30,6 +30,8 @@ loop-i-preserved c =
     record {
       inside = omega (arith, c.loop-i.invariant.inside);
       most = c.common_labels-c.ensures.most;
-      is = common-arm-step S (reading S c.args.x.now) c.args.arms.now i c.loop-i.i c.index-arms-i.result (common_width c.loop-i.c) (common_width c.common_labels-c.result) lt c.index-arms-i.is (omega (arith, c.loop-i-test.true))
-          c.loop-i.invariant.is (c.common_labels-c.ensures.is ∙ ap (λ (z : List FlatExpr). common_more (map (label_of S) z) (common_width c.loop-i.c)) (c.as_slice.ensures ∙ sym (ap (λ (z : FlatArm). z.labels) c.index-arms-i.is)));
+      is = common-arm-step S (reading S c.args.x.now) c.args.arms.now i c.loop-i.i c.index-arms-i.result (common_width c.loop-i.c)
+          (common_width c.common_labels-c.result) lt c.index-arms-i.is (omega (arith, c.loop-i-test.true))
+          c.loop-i.invariant.is (c.common_labels-c.ensures.is ∙ ap (λ (z : List FlatExpr). common_more (map (label_of S) z) (common_width c.loop-i.c)) (c.as_slice.ensures ∙
+          sym (ap (λ (z : FlatArm). z.labels) c.index-arms-i.is)));
     }

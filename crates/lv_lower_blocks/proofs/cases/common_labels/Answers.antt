@@ -16,6 +16,7 @@ loop-i-preserved c =
     record {
       inside = omega (arith, c.loop-i.invariant.inside);
       most = omega (arith, c.max.ensures, w, g.1, c.loop-i.invariant.most);
-      is = common-step S c.args.labels.now i c.loop-i.i x (common_width c.loop-i.c) (common_width c.args.rest) c.own-of.result c.max.result _ lt c.index-labels-i.is (omega (arith, c.loop-i-test.true)) c.own-of.ensures
+      is = common-step S c.args.labels.now i c.loop-i.i x (common_width c.loop-i.c)
+          (common_width c.args.rest) c.own-of.result c.max.result _ lt c.index-labels-i.is (omega (arith, c.loop-i-test.true)) c.own-of.ensures
           c.loop-i.invariant.is c.max.ensures refl;
     }

@@ -9,4 +9,5 @@ use Rattle.lv_lower_blocks.proofs.cases.fits_one.Given as goal
 
 abbrev pub invariant-loop-label : goal.invariant-loop-label
 invariant-loop-label l =
-    Fits l.initial.b l.b (all_cells (declared_all l.signals)) l.table l.any l.selector (λ x v. list_any (fits_label v l.wild (common_width l.c) x) (map (label_of (declared_all l.signals)) (take l.label-index l.labels)))
+    Fits l.initial.b l.b (all_cells (declared_all l.signals)) l.table l.any l.selector (λ x v. list_any (fits_label v l.wild (common_width l.c) x) (map (label_of (declared_all l.signals))
+    (take l.label-index l.labels)))

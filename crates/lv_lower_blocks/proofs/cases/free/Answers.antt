@@ -31,4 +31,5 @@ pub returns-in_default : goal.returns-in_default
 returns-in_default c =
     let S = declared_all c.args.signals.now in
     let g = (good-width S c.args.label.now c.requires.good).0 in
-    free-none c.args.b.now c.zeros-in_default.result S c.args.label.now c.args.wild c.args.c.now.signed c.args.c.now.width (omega (arith, g, c.requires.wide)) c.zeros-in_default.ensures (not-literal S c.args.label.now c.in_default.not-Lit)
+    free-none c.args.b.now c.zeros-in_default.result S c.args.label.now c.args.wild c.args.c.now.signed c.args.c.now.width (omega (arith, g, c.requires.wide)) c.zeros-in_default.ensures
+    (not-literal S c.args.label.now c.in_default.not-Lit)

@@ -11,7 +11,8 @@ returns-in_ok-k-in-None c =
 pub returns-then-is_zero : goal.returns-then-is_zero
 returns-then-is_zero c =
     let S = declared_all c.args.signals.now in
-    element-miss S c.args.aim.now c.args.n c.args.old c.args.x c.in-Some.spot c.in-Some.is c.requires.old_in c.requires.same c.in_ok-hit-in-Some.ensures (c.is_zero.ensures (search (rules, c.if-is_zero.true)))
+    element-miss S c.args.aim.now c.args.n c.args.old c.args.x c.in-Some.spot c.in-Some.is c.requires.old_in c.requires.same c.in_ok-hit-in-Some.ensures (c.is_zero.ensures (search
+    (rules, c.if-is_zero.true)))
 
 pub returns-in_ok-k-in-Some : goal.returns-in_ok-k-in-Some
 returns-in_ok-k-in-Some c =

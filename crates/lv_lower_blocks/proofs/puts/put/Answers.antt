@@ -24,8 +24,10 @@ end_of-end-requires c =
     let S = declared_all c.args.signals.now in
     let k = c.args.aim.now.signal in
     let d = declared c.signal_of-signal.result.now in
-    let sort : is_signal_sort (signal_at S k).sort ≡ true = ap (λ (z : Declared). is_signal_sort z.sort) c.signal_of-signal.ensures ∙ signal-sort c.signal_of-signal.result.now.sort (sym c.is_clock.ensures ∙ c.if-is_clock.false) in
-    let h = cells-end S k c.number_at-at.result c.elements-of.result.1 d c.args.first.now c.signal_of-signal.ensures sort c.requires.first c.number_at-at.ensures c.elements-of.ensures.count (omega (arith, c.elements-of.ensures.count, count-some d.array)) in
+    let sort : is_signal_sort (signal_at S k).sort ≡ true = ap (λ (z : Declared). is_signal_sort z.sort) c.signal_of-signal.ensures ∙
+    signal-sort c.signal_of-signal.result.now.sort (sym c.is_clock.ensures ∙ c.if-is_clock.false) in
+    let h = cells-end S k c.number_at-at.result c.elements-of.result.1 d c.args.first.now c.signal_of-signal.ensures sort c.requires.first c.number_at-at.ensures c.elements-of.ensures.count
+    (omega (arith, c.elements-of.ensures.count, count-some d.array)) in
     omega (arith, h, c.requires.table.count)
 
 pub number_at-old-requires : goal.number_at-old-requires
@@ -33,7 +35,8 @@ number_at-old-requires c =
     let S = declared_all c.args.signals.now in
     let k = c.args.aim.now.signal in
     let d = declared c.signal_of-signal.result.now in
-    let sort : is_signal_sort (signal_at S k).sort ≡ true = ap (λ (z : Declared). is_signal_sort z.sort) c.signal_of-signal.ensures ∙ signal-sort c.signal_of-signal.result.now.sort (sym c.is_clock.ensures ∙ c.if-is_clock.false) in
+    let sort : is_signal_sort (signal_at S k).sort ≡ true = ap (λ (z : Declared). is_signal_sort z.sort) c.signal_of-signal.ensures ∙
+    signal-sort c.signal_of-signal.result.now.sort (sym c.is_clock.ensures ∙ c.if-is_clock.false) in
     let h = (cells-inside S k c.number_at-at.result c.elements-of.result.1 c.loop-i.i d c.args.first.now c.signal_of-signal.ensures sort c.requires.first c.number_at-at.ensures c.elements-of.ensures.count c.loop-i.auto.i
     (omega (arith, c.loop-i-test.true, c.end_of-end.ensures))).0 in
     omega (arith, h, c.requires.table.count, c.loop-i.invariant.count)
@@ -43,7 +46,8 @@ set-requires c =
     let S = declared_all c.args.signals.now in
     let k = c.args.aim.now.signal in
     let d = declared c.signal_of-signal.result.now in
-    let sort : is_signal_sort (signal_at S k).sort ≡ true = ap (λ (z : Declared). is_signal_sort z.sort) c.signal_of-signal.ensures ∙ signal-sort c.signal_of-signal.result.now.sort (sym c.is_clock.ensures ∙ c.if-is_clock.false) in
+    let sort : is_signal_sort (signal_at S k).sort ≡ true = ap (λ (z : Declared). is_signal_sort z.sort) c.signal_of-signal.ensures ∙
+    signal-sort c.signal_of-signal.result.now.sort (sym c.is_clock.ensures ∙ c.if-is_clock.false) in
     let h = (cells-inside S k c.number_at-at.result c.elements-of.result.1 c.loop-i.i d c.args.first.now c.signal_of-signal.ensures sort c.requires.first c.number_at-at.ensures c.elements-of.ensures.count c.loop-i.auto.i
     (omega (arith, c.loop-i-test.true, c.end_of-end.ensures))).0 in
     omega (arith, h, c.requires.table.count, c.loop-i.invariant.count)
@@ -56,7 +60,8 @@ element-requires-clause-old_in c =
     let S = declared_all c.args.signals.now in
     let k = c.args.aim.now.signal in
     let d = declared c.signal_of-signal.result.now in
-    let sort : is_signal_sort (signal_at S k).sort ≡ true = ap (λ (z : Declared). is_signal_sort z.sort) c.signal_of-signal.ensures ∙ signal-sort c.signal_of-signal.result.now.sort (sym c.is_clock.ensures ∙ c.if-is_clock.false) in
+    let sort : is_signal_sort (signal_at S k).sort ≡ true = ap (λ (z : Declared). is_signal_sort z.sort) c.signal_of-signal.ensures ∙
+    signal-sort c.signal_of-signal.result.now.sort (sym c.is_clock.ensures ∙ c.if-is_clock.false) in
     let h = (cells-inside S k c.number_at-at.result c.elements-of.result.1 c.loop-i.i d c.args.first.now c.signal_of-signal.ensures sort c.requires.first c.number_at-at.ensures c.elements-of.ensures.count c.loop-i.auto.i
     (omega (arith, c.loop-i-test.true, c.end_of-end.ensures))).0 in
     let t = rewritten-table c.loop-i.invariant c.requires.table in
@@ -67,7 +72,8 @@ element-requires-clause-same c =
     let S = declared_all c.args.signals.now in
     let k = c.args.aim.now.signal in
     let d = declared c.signal_of-signal.result.now in
-    let sort : is_signal_sort (signal_at S k).sort ≡ true = ap (λ (z : Declared). is_signal_sort z.sort) c.signal_of-signal.ensures ∙ signal-sort c.signal_of-signal.result.now.sort (sym c.is_clock.ensures ∙ c.if-is_clock.false) in
+    let sort : is_signal_sort (signal_at S k).sort ≡ true = ap (λ (z : Declared). is_signal_sort z.sort) c.signal_of-signal.ensures ∙
+    signal-sort c.signal_of-signal.result.now.sort (sym c.is_clock.ensures ∙ c.if-is_clock.false) in
     let h = cells-inside S k c.number_at-at.result c.elements-of.result.1 c.loop-i.i d c.args.first.now c.signal_of-signal.ensures sort c.requires.first c.number_at-at.ensures c.elements-of.ensures.count c.loop-i.auto.i
     (omega (arith, c.loop-i-test.true, c.end_of-end.ensures)) in
     let t = rewritten-table c.loop-i.invariant c.requires.table in
@@ -78,11 +84,14 @@ loop-i-preserved c =
     let S = declared_all c.args.signals.now in
     let k = c.args.aim.now.signal in
     let d = declared c.signal_of-signal.result.now in
-    let sort : is_signal_sort (signal_at S k).sort ≡ true = ap (λ (z : Declared). is_signal_sort z.sort) c.signal_of-signal.ensures ∙ signal-sort c.signal_of-signal.result.now.sort (sym c.is_clock.ensures ∙ c.if-is_clock.false) in
+    let sort : is_signal_sort (signal_at S k).sort ≡ true = ap (λ (z : Declared). is_signal_sort z.sort) c.signal_of-signal.ensures ∙
+    signal-sort c.signal_of-signal.result.now.sort (sym c.is_clock.ensures ∙ c.if-is_clock.false) in
     let h = cells-inside S k c.number_at-at.result c.elements-of.result.1 c.loop-i.i d c.args.first.now c.signal_of-signal.ensures sort c.requires.first c.number_at-at.ensures c.elements-of.ensures.count c.loop-i.auto.i
     (omega (arith, c.loop-i-test.true, c.end_of-end.ensures)) in
-    subst (λ (z : List ℕ). Rewrites c.args.b.now c.element.new.b c.args.table.now z c.number_at-at.result (c.loop-i.i + 1) (put_at S c.args.aim.now c.args.x c.args.table.now c.number_at-at.result c.elements-of.result.0)) (sym c.set.ensures)
-    (puts-more S c.args.aim.now c.args.x c.args.table.now c.loop-i.table c.same.result c.number_at-at.result c.loop-i.i c.elements-of.result.0 (c.loop-i.i + 1) c.in_ok-k.k c.number_at-old.result (c.elements-of.result.0 + (c.loop-i.i - c.number_at-at.result))
+    subst (λ (z : List ℕ). Rewrites c.args.b.now c.element.new.b c.args.table.now z c.number_at-at.result (c.loop-i.i + 1)
+    (put_at S c.args.aim.now c.args.x c.args.table.now c.number_at-at.result c.elements-of.result.0)) (sym c.set.ensures)
+    (puts-more S c.args.aim.now c.args.x c.args.table.now c.loop-i.table c.same.result c.number_at-at.result c.loop-i.i c.elements-of.result.0
+    (c.loop-i.i + 1) c.in_ok-k.k c.number_at-old.result (c.elements-of.result.0 + (c.loop-i.i - c.number_at-at.result))
     c.same.ensures c.loop-i.invariant c.requires.table c.loop-i.auto.i h.0 h.1 c.number_at-old.ensures refl refl c.in_ok-k.ensures)
 
 pub returns : goal.returns
@@ -90,7 +99,8 @@ returns c =
     let S = declared_all c.args.signals.now in
     let a = c.args.aim.now in
     let k = a.signal in
-    let sort : is_signal_sort (signal_at S k).sort ≡ true = ap (λ (z : Declared). is_signal_sort z.sort) c.signal_of-signal.ensures ∙ signal-sort c.signal_of-signal.result.now.sort (sym c.is_clock.ensures ∙ c.if-is_clock.false) in
+    let sort : is_signal_sort (signal_at S k).sort ≡ true = ap (λ (z : Declared). is_signal_sort z.sort) c.signal_of-signal.ensures ∙
+    signal-sort c.signal_of-signal.result.now.sort (sym c.is_clock.ensures ∙ c.if-is_clock.false) in
     let at_is : c.number_at-at.result ≡ length (all_cells (take k S)) = c.number_at-at.ensures ∙ c.requires.first.is k (signal_in S k sort) in
     let count : c.elements-of.result.1 ≡ cell_count (signal_at S k).array = c.elements-of.ensures.count ∙ sym (ap (λ (z : Declared). cell_count z.array) c.signal_of-signal.ensures) in
     let from : c.elements-of.result.0 ≡ first_number (signal_at S k).array = c.elements-of.ensures.low ∙ sym (ap (λ (z : Declared). first_number z.array) c.signal_of-signal.ensures) in

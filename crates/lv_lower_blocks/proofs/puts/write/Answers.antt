@@ -20,6 +20,7 @@ loop-aim-preserved c =
     let n = left-next S c.args.aims.now i c.aim-item.result c.loop-aim-test.true c.aim-item.is in
     record {
       left = omega (arith, n, c.loop-aim.invariant.left, c.aim_width-width.ensures);
-      is = written-more S c.args.aims.now i c.aim-item.result c.args.x c.same.result (c.loop-aim.left - c.aim_width-width.result) c.aim_width-width.result (i + 1) c.same.ensures c.loop-aim-test.true c.aim-item.is refl
+      is = written-more S c.args.aims.now i c.aim-item.result c.args.x c.same.result (c.loop-aim.left - c.aim_width-width.result) c.aim_width-width.result
+          (i + 1) c.same.ensures c.loop-aim-test.true c.aim-item.is refl
           (omega (arith, n, c.loop-aim.invariant.left, c.aim_width-width.ensures)) c.aim_width-width.ensures c.loop-aim.invariant.is c.in_ok-y.ensures.is c.in_ok-put.ensures;
     }

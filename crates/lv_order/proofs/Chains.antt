@@ -1,8 +1,8 @@
 -- Chains of edges, cut and turned.
-use Rattle.std.proofs.Common.{◌≡◌, ℕ, zero, suc, ◌<◌, ◌≤◌, Bool, true, false, ◌&&◌, List, [], ◌∷◌, ◌++◌, length, get_or, refl, ap, sym, subst, ◌∙◌, inl, inr, arith}
+use Rattle.std.proofs.Common.{◌≡◌, ℕ, ◌<◌, true, ◌&&◌, List, [], ◌∷◌, ◌++◌, length, get_or, refl, ap, sym, subst, ◌∙◌, inl, inr}
 use Rattle.std.proofs.lemmas.Bool.{true≢false, and_parts, and_from, cases_lt}
 use Rattle.std.proofs.lemmas.List.{append-nil, get_or_past}
-use Rattle.lv_order.specs.Graphs.{Graph, has, edges_of, goes, leads}
+use Rattle.lv_order.specs.Graphs.{Graph, has, goes, leads}
 use Rattle.lv_order.proofs.Lists.{and_assoc}
 
 pub leads-split : (E : Graph) (f m : ℕ) (xs ys : List ℕ) → leads E f (xs ++ m ∷ ys) ≡ (leads E m xs && leads E f (m ∷ ys))

@@ -1,9 +1,9 @@
 -- Edges that lead to vertices.
-use Rattle.std.proofs.Common.{◌≡◌, ℕ, zero, suc, ◌+◌, ◌<◌, ◌≤◌, Bool, true, false, ◌==◌, List, [], ◌∷◌, length, get_or, refl, ap, sym, subst, ◌∙◌, inl, inr, arith, Vec}
+use Rattle.std.proofs.Common.{◌≡◌, ℕ, ◌+◌, ◌<◌, ◌≤◌, true, false, ◌==◌, List, [], ◌∷◌, length, get_or, refl, ap, sym, subst, ◌∙◌, inl, inr, arith, Vec}
 use Rattle.std.specs.Prelude.{nat_lt}
 use Rattle.std.proofs.lemmas.Bool.{true≢false, and_parts, and_from, or_cases, or_left, or_right, ltb-true, lt-ltb, eqb-true, eq-eqb, cases_eq, cases_lt}
 use Rattle.std.proofs.lemmas.List.{get_or-map, length-map, get_or_past}
-use Rattle.lv_order.specs.Graphs.{Graph, graph, has, goes, edges_of}
+use Rattle.lv_order.specs.Graphs.{graph, has, goes, edges_of}
 use Rattle.lv_order.specs.Walks.{is_row}
 
 row_within : (n : ℕ) (ws : List ℕ) (w : ℕ) → is_row n ws ≡ true → has ws w ≡ true → w < n

@@ -1,13 +1,13 @@
 -- Turns of a walk.
-use Rattle.std.proofs.Common.{◌≡◌, ℕ, zero, suc, ◌+◌, ◌-◌, ◌<◌, ◌≤◌, Bool, true, false, List, [], ◌∷◌, ◌++◌, take, length, get_or, set, refl, ap, sym, subst, ◌∙◌, arith, Vec, Option, Some, None}
+use Rattle.std.proofs.Common.{◌≡◌, ℕ, ◌+◌, ◌-◌, ◌<◌, ◌≤◌, true, List, [], ◌∷◌, ◌++◌, take, length, get_or, set, refl, ap, sym, subst, ◌∙◌, arith, Vec}
 use Rattle.std.proofs.lemmas.Bool.{true≢false}
-use Rattle.std.proofs.lemmas.List.{get_or_read, get_or-map, length-map, same_from_push}
+use Rattle.std.proofs.lemmas.List.{get_or_read, get_or-map, same_from_push}
 use Rattle.lv_order.specs.declared.walk.State.{State}
 use Rattle.lv_order.specs.declared.walk.State.TheVariants.{New, Open, Done}
 use Rattle.lv_order.specs.declared.walk.Turn.TheVariants.{Goes}
 use Rattle.lv_order.specs.declared.walk.Walk.{Walk}
 use Rattle.lv_order.specs.Graphs.{Graph, graph, has, edges_of, goes, leads}
-use Rattle.lv_order.specs.Walks.{state_at, is_new, is_open, looked, left, work, rest, walks, IsWalk, IsTurn, IsMet, IsOver}
+use Rattle.lv_order.specs.Walks.{state_at, is_new, is_open, looked, left, work, rest, walks, IsWalk, IsTurn, IsMet}
 use Rattle.lv_order.proofs.Lists.{has_get, has_pushed, last_is}
 use Rattle.lv_order.proofs.Chains.{leads_push}
 use Rattle.lv_order.proofs.Works.{work-set}

@@ -1,5 +1,5 @@
 -- What is left to do, where one state changes.
-use Rattle.std.proofs.Common.{◌≡◌, ℕ, zero, suc, ◌+◌, ◌<◌, List, [], ◌∷◌, length, set, refl, ap, arith}
+use Rattle.std.proofs.Common.{◌≡◌, ℕ, zero, suc, ◌+◌, ◌<◌, List, [], ◌∷◌, length, set, arith}
 use Rattle.lv_order.specs.declared.walk.State.{State}
 use Rattle.lv_order.specs.Graphs.{Graph, edges_of}
 use Rattle.lv_order.specs.Walks.{state_at, left, work}

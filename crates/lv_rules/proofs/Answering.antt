@@ -1,22 +1,19 @@
 -- Answers on parts: none is told of, or one.
-use Rattle.std.proofs.Common.{◌≡◌, ℕ, zero, suc, ◌+◌, ◌<◌, ◌≤◌, Bool, true, false, not, ◌&&◌, ◌||◌, ◌==◌, List, [], ◌∷◌, ◌++◌, length, map, get_or, refl, ap, sym, subst, ◌∙◌, inl, inr, arith, Option, Some, None}
+use Rattle.std.proofs.Common.{◌≡◌, ℕ, zero, suc, ◌+◌, ◌<◌, ◌≤◌, Bool, true, false, ◌||◌, List, [], ◌∷◌, ◌++◌, length, map, get_or, refl, ap, sym, subst, ◌∙◌, inl, inr, arith, Option, Some, None}
 use Rattle.std.specs.Prelude.{flat_map, filter, cond, slice_get, Contains, if◌then◌else◌}
 use Rattle.std.specs.List.{list_any}
-use Rattle.std.proofs.lemmas.Bool.{cases_eq, eqb-true}
+use Rattle.std.proofs.lemmas.Bool.{cases_eq}
 use Rattle.std.proofs.lemmas.Option.{slice_get_read, slice_get_within}
-use Rattle.std.proofs.lemmas.List.Elements.{Contains-append_left, Contains-append_right}
+use Rattle.std.proofs.lemmas.List.Elements.{Contains-append_right}
 use Rattle.lv_ast.specs.Names.{Name}
-use Rattle.lv_source.specs.Names.{Declared, is_clock_sort}
 use Rattle.lv_source.specs.Parts.{At, numbered_from}
 use Rattle.lv_source.specs.PartRules.{told_if}
-use Rattle.lv_source.specs.Views.{View, Aim, Seen, at_view, at_views}
-use Rattle.lv_source.proofs.Tests.{and-left, and-right}
+use Rattle.lv_source.specs.Views.{View, at_view, at_views}
 use Rattle.lv_flat.specs.Signals.{Signals}
 use Rattle.lv_extents.specs.declared.extent.Extent.{Extent}
 use Rattle.lv_extents.specs.Extents.{Each, IsExtent, AreExtents}
-use Rattle.lv_rules.specs.declared.told.Told.{Told}
-use Rattle.lv_rules.specs.Rules.{path_of, IsAnswer, IsPlace, IsFound}
-use Rattle.lv_rules.proofs.Lists.{Before, IsSome, some_of, any_of, flat_has}
+use Rattle.lv_rules.specs.Rules.{path_of, IsAnswer, IsPlace}
+use Rattle.lv_rules.proofs.Lists.{Before, flat_has}
 
 -- ---- one for each
 

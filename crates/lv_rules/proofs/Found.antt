@@ -1,6 +1,5 @@
 -- Names in targets, of a part and step by step.
-use Rattle.std.proofs.Common.{◌≡◌, ℕ, Bool, true, false, ◌&&◌, ◌||◌, ◌==◌, List, [], ◌∷◌, ◌++◌, take, length, get_or, refl, ap, sym, subst, ◌∙◌, ◌<◌, ◌≤◌, Option, Some, None}
-use Rattle.std.specs.Prelude.{flat_map, slice_get}
+use Rattle.std.proofs.Common.{◌≡◌, ℕ, Bool, true, false, ◌&&◌, ◌||◌, ◌==◌, List, [], ◌∷◌, take, length, get_or, refl, ap, sym, subst, ◌∙◌, ◌<◌, ◌≤◌, Option, Some, None}
 use Rattle.std.specs.List.{list_any}
 use Rattle.std.proofs.lemmas.Bool.{eq-eqb}
 use Rattle.std.proofs.lemmas.List.{take_all}
@@ -12,7 +11,7 @@ use Rattle.lv_extents.specs.declared.extent.Step.{Step}
 use Rattle.lv_extents.specs.declared.extent.Extent.{Extent}
 use Rattle.lv_extents.specs.Extents.{all_aims}
 use Rattle.lv_rules.specs.Rules.{IsFound, step_aims}
-use Rattle.lv_rules.proofs.Lists.{any_of, any_flat, any_more}
+use Rattle.lv_rules.proofs.Lists.{any_of, any_flat}
 
 pub aims_any : (p : Aim → Bool) (x : Extent) → list_any p (all_aims x) ≡ (list_any p x.aims || list_any (λ s. list_any p s.aims) x.steps)
 aims_any p x = list_any-append p x.aims (step_aims x.steps) ∙ ap (λ b. list_any p x.aims || b) (any_flat p (λ s. s.aims) x.steps)

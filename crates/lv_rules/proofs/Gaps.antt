@@ -1,6 +1,6 @@
 -- Undriven, by extents.
-use Rattle.std.proofs.Common.{◌≡◌, ℕ, zero, suc, ◌+◌, ◌<◌, ◌≤◌, ◌%◌, min, max, Bool, true, false, not, ◌&&◌, ◌||◌, ◌==◌, List, [], ◌∷◌, ◌++◌, length, get_or, slice_index, bit_and, refl, ap, sym, subst, ◌∙◌, inl, inr, arith, Option, Some, None}
-use Rattle.std.specs.Prelude.{slice_get, All, Contains, filter, bit_xor, nat_lt}
+use Rattle.std.proofs.Common.{◌≡◌, ℕ, zero, suc, ◌+◌, ◌<◌, ◌≤◌, ◌%◌, min, Bool, true, false, not, ◌&&◌, ◌==◌, List, [], ◌∷◌, ◌++◌, length, get_or, slice_index, bit_and, refl, ap, sym, subst, ◌∙◌, inl, inr, arith, Option, Some, None}
+use Rattle.std.specs.Prelude.{slice_get, filter, bit_xor, nat_lt}
 use Rattle.std.specs.List.{list_any}
 use Rattle.std.specs.Int.{bit_at}
 use Rattle.std.proofs.lemmas.Bool.{cases_eq, cases_Bool, ltb-false, le-ltb, lt-ltb, eqb-true, eq-eqb, false_from_ne_true}
@@ -10,8 +10,8 @@ use Rattle.std.proofs.lemmas.Option.{slice_get_within, get_or_from_slice_get, sl
 use Rattle.lv_source.specs.Names.{Bounds, Declared, no_declaration, width_of, low, high, is_signal_sort, is_variable_sort, is_input_sort}
 use Rattle.lv_source.specs.Places.{Bit, has_bit, whole, within}
 use Rattle.lv_source.specs.PartRules.{told_if, touches}
-use Rattle.lv_source.specs.Views.{View, is_combinational, at_view, view_driven, is_register_view, is_wired_view, is_undriven_view, undriven_views}
-use Rattle.lv_source.proofs.Tests.{and-both, and-left, and-right, not-true, or-split}
+use Rattle.lv_source.specs.Views.{View, is_combinational, at_view, view_driven, is_wired_view, is_undriven_view, undriven_views}
+use Rattle.lv_source.proofs.Tests.{and-both, and-left, and-right, not-true}
 use Rattle.lv_source.proofs.Trees.{HasCell}
 use Rattle.lv_source.proofs.Unique.{some_bit_with, bit_with}
 use Rattle.lv_flat.specs.Cells.{AreDistinct, all_cells}
@@ -20,18 +20,18 @@ use Rattle.lv_flat.specs.Signals.{Signals, signal_at, declared, declared_all, bo
 use Rattle.lv_lower_exprs.proofs.Wholes.{signal_in}
 use Rattle.lv_spans.specs.declared.span.Span.{Span}
 use Rattle.lv_spans.specs.Sets.{Cell, Masks, has, mask_at, is_set, is_under, is_element}
-use Rattle.lv_spans.specs.Domain.{is_element_in, is_cell, is_bit, bit_of, spans_have, IsSpan}
+use Rattle.lv_spans.specs.Domain.{is_element_in, is_cell, is_bit, bit_of, spans_have}
 use Rattle.lv_extents.specs.declared.extent.Extent.{Extent}
 use Rattle.lv_extents.specs.Extents.{IsExtent, AreExtents, way_of}
 use Rattle.lv_rules.specs.declared.told.Told.{Told}
 use Rattle.lv_rules.specs.declared.marks.Class.TheVariants.{Combinational}
 use Rattle.lv_rules.specs.Rules.{unclocked, IsAnswer}
 use Rattle.lv_rules.specs.Drives.{is_marked, names, is_of}
-use Rattle.lv_rules.specs.Wires.{is_wired, IsLacking, IsCommon, AreCommon, IsGap, IsCovered, LacksSpan, HasGap, LacksSome, LacksAt, IsUndriven}
-use Rattle.lv_rules.proofs.Lists.{same_tests, not_both, IsSome, some_of, any_of, any_none, any_filter}
+use Rattle.lv_rules.specs.Wires.{is_wired, IsLacking, IsCommon, AreCommon, IsCovered, LacksSpan, HasGap, IsUndriven}
+use Rattle.lv_rules.proofs.Lists.{same_tests, not_both, IsSome, some_of, any_of, any_filter}
 use Rattle.lv_rules.proofs.Answering.{IsMatched, each_back, each_any, views_none, told_one}
 use Rattle.lv_rules.proofs.Parts.{at_itself}
-use Rattle.lv_rules.proofs.Touches.{some_bit, set_below, under_signal, bit_cell, touches_by, bit_whole, bit_signal, all_at, signal_get}
+use Rattle.lv_rules.proofs.Touches.{some_bit, set_below, under_signal, bit_cell, touches_by, bit_whole, bit_signal, signal_get}
 use Rattle.lv_rules.proofs.Twice.{IsTable, told_has}
 
 -- ---- masks

@@ -1,26 +1,23 @@
 -- What each rule tells of one part, by its extent.
-use Rattle.std.proofs.Common.{◌≡◌, ℕ, Bool, true, false, not, ◌&&◌, ◌||◌, ◌==◌, List, [], ◌∷◌, ◌++◌, map, refl, ap, sym, subst, ◌∙◌, Option, Some, None, inl, inr, arith, ◌<◌}
+use Rattle.std.proofs.Common.{◌≡◌, ℕ, Bool, true, false, not, ◌&&◌, ◌||◌, ◌==◌, List, [], ◌∷◌, ◌++◌, map, refl, ap, sym, subst, ◌∙◌, Option, Some, None, inl, inr}
 use Rattle.std.specs.Prelude.{flat_map, filter, slice_get, Contains, if◌then◌else◌}
 use Rattle.std.specs.List.{list_any}
-use mathlib.Core.Path.{fun_ext}
 use Rattle.std.proofs.lemmas.Bool.{eqb-true, cases_Bool}
 use Rattle.std.proofs.lemmas.List.Elements.{Contains-append_left, Contains-append_right}
-use Rattle.lv_source.specs.Names.{Declared, Sort, is_signal_sort, is_variable_sort, is_input_sort, is_clock_sort}
+use Rattle.lv_source.specs.Names.{Declared, is_variable_sort, is_input_sort, is_clock_sort}
 use Rattle.lv_source.specs.Parts.{At}
 use Rattle.lv_source.specs.PartRules.{told_if, touches}
 use Rattle.lv_source.specs.ScopeRules.{same_sign}
 use Rattle.lv_source.specs.Views.{Way, Continuous, Combinational, Edge, View, Aim, Seen, is_continuous, is_combinational, at_view, at_views, aimed_at, is_wrong_aim, is_wrong_view, edge_places, clock_aims, seen_places, first_aim}
-use Rattle.lv_source.proofs.Tests.{and-left, and-right, and-both, not-false}
+use Rattle.lv_source.proofs.Tests.{and-left, and-right}
 use Rattle.lv_flat.specs.Cells.{AreDistinct, all_cells}
 use Rattle.lv_flat.specs.Signals.{Signals, signal_at, sort_of}
-use Rattle.lv_extents.specs.declared.extent.Aim as x
-use Rattle.lv_extents.specs.declared.extent.Step.{Step}
 use Rattle.lv_extents.specs.declared.extent.Extent.{Extent}
-use Rattle.lv_extents.specs.Extents.{Each, IsAim, IsStep, IsExtent, way_of, all_aims}
+use Rattle.lv_extents.specs.Extents.{IsAim, IsStep, IsExtent, way_of, all_aims}
 use Rattle.lv_rules.specs.declared.local.LocalRule.{LocalRule}
 use Rattle.lv_rules.specs.declared.local.LocalRule.TheVariants.{WrongKind, ClockUse, NamedClock, Nonblocking, Latch, ReadFirst}
 use Rattle.lv_rules.specs.Rules.{local_views, local_at, unclocked, IsPlace, is_misaimed, is_misdriven, is_other_edge, IsFound, is_clock_aim, aim_place, is_late_step, step_place, IsClockPlace, clock_place_by}
-use Rattle.lv_rules.proofs.Lists.{IsSome, some_of, any_of, any_none, any_alike, flat_none, filter_none, filter_has, flat_has}
+use Rattle.lv_rules.proofs.Lists.{IsSome, some_of, any_of, any_alike, filter_none, filter_has}
 use Rattle.lv_rules.proofs.Answering.{IsPair, IsMatched, each_get, each_back, each_any, head_has, told_place, mapped_has}
 use Rattle.lv_rules.proofs.Touches.{any_touched}
 

@@ -1,13 +1,11 @@
 -- Blocking, by extents.
-use Rattle.std.proofs.Common.{◌≡◌, ℕ, zero, suc, ◌+◌, ◌-◌, ◌<◌, ◌≤◌, Bool, true, false, not, ◌&&◌, ◌||◌, ◌==◌, List, [], ◌∷◌, ◌++◌, map, take, drop, length, get_or, set, refl, ap, sym, subst, ◌∙◌, inl, inr, arith, Option, Some, None}
-use Rattle.std.specs.Prelude.{slice_get, All, Contains, if◌then◌else◌, flat_map, filter}
+use Rattle.std.proofs.Common.{◌≡◌, ℕ, zero, suc, ◌+◌, ◌-◌, ◌<◌, ◌≤◌, Bool, true, false, not, ◌&&◌, ◌||◌, ◌==◌, List, [], ◌∷◌, map, take, drop, length, get_or, refl, ap, sym, subst, ◌∙◌, inl, inr, arith, Option, Some, None}
+use Rattle.std.specs.Prelude.{slice_get, Contains, if◌then◌else◌, flat_map, filter}
 use Rattle.std.specs.List.{list_any}
-use Rattle.std.proofs.lemmas.Bool.{cases_eq, cases_lt, cases_Bool, eqb-true, eq-eqb, ne_eqb}
-use Rattle.std.proofs.lemmas.List.{get_or-set_same, get_or-set_other, take_all}
+use Rattle.std.proofs.lemmas.Bool.{cases_eq, cases_lt, eqb-true, eq-eqb, ne_eqb}
 use Rattle.std.proofs.lemmas.List.Folds.{list_any-append}
 use Rattle.std.proofs.lemmas.Option.{slice_get_within, slice_get_read, get_or_from_slice_get}
 use Rattle.lv_source.specs.Names.{Declared, is_signal_sort, is_variable_sort}
-use Rattle.lv_source.specs.Places.{Bit}
 use Rattle.lv_source.specs.Parts.{At}
 use Rattle.lv_source.specs.PartRules.{touches, others}
 use Rattle.lv_source.specs.Views as v
@@ -24,11 +22,10 @@ use Rattle.lv_extents.specs.declared.extent.Extent.{Extent}
 use Rattle.lv_extents.specs.Extents.{Each, IsAim, IsStep, IsExtent, AreExtents, way_of}
 use Rattle.lv_rules.specs.declared.told.Told.{Told}
 use Rattle.lv_rules.specs.declared.readers.Reader.{Reader}
-use Rattle.lv_rules.specs.declared.readers.Reader.TheVariants as r
 use Rattle.lv_rules.specs.Rules.{unclocked, IsAnswer, IsFound, step_place}
 use Rattle.lv_rules.specs.Drives.{is_marked, names}
-use Rattle.lv_rules.specs.Reads.{aims_name, steps_later, seen_by, others_read, reader_at, is_sharing_span, is_sharing_aim, is_blocking_step, is_blocking_part, IsBlockedAt, IsBlocked}
-use Rattle.lv_rules.proofs.Lists.{same_tests, IsSome, some_of, any_of, any_alike, any_flat, IsFront, take_get, get_take, drop_get, get_drop, none_in, any_step, or_shift, filter_none, filter_has}
+use Rattle.lv_rules.specs.Reads.{aims_name, steps_later, others_read, reader_at, is_sharing_span, is_blocking_step, is_blocking_part, IsBlocked}
+use Rattle.lv_rules.proofs.Lists.{same_tests, IsSome, some_of, any_of, any_alike, any_flat, IsFront, take_get, get_take, drop_get, get_drop, none_in, filter_none, filter_has}
 use Rattle.lv_rules.proofs.Answering.{IsPair, IsMatched, each_get, each_back, each_any, views_none, told_one, head_has}
 use Rattle.lv_rules.proofs.Touches.{any_touched, touches_by, all_at, spans_none, spans_append}
 use Rattle.lv_rules.proofs.Twice.{and_turn}

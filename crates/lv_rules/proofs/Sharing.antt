@@ -1,19 +1,18 @@
 -- Bits that parts drive, part by part.
-use Rattle.std.proofs.Common.{◌≡◌, ℕ, zero, suc, ◌+◌, ◌<◌, ◌≤◌, Bool, true, false, ◌&&◌, ◌||◌, ◌==◌, List, [], ◌∷◌, take, length, get_or, set, refl, ap, sym, subst, ◌∙◌, inl, inr, arith, Option, Some, None}
+use Rattle.std.proofs.Common.{◌≡◌, ℕ, ◌+◌, ◌<◌, ◌≤◌, Bool, true, false, ◌&&◌, ◌||◌, ◌==◌, List, take, length, get_or, set, refl, ap, sym, subst, ◌∙◌, inl, inr, arith, Some}
 use Rattle.std.specs.Prelude.{slice_get, All}
 use Rattle.std.specs.List.{list_any}
 use Rattle.std.proofs.lemmas.Bool.{cases_eq, eq-eqb, ne_eqb}
-use Rattle.std.proofs.lemmas.List.{get_or-set_same, get_or-set_other, take_all}
+use Rattle.std.proofs.lemmas.List.{get_or-set_same, get_or-set_other}
 use Rattle.std.proofs.lemmas.Option.{slice_get_read, slice_get_within}
-use Rattle.lv_source.proofs.Tests.{decide, and-both, and-left, and-right}
+use Rattle.lv_source.proofs.Tests.{and-both}
 use Rattle.lv_flat.specs.Signals.{Signals}
 use Rattle.lv_spans.specs.declared.span.Span.{Span}
 use Rattle.lv_spans.specs.Sets.{Cell, Masks, has, is_under, is_set}
-use Rattle.lv_spans.specs.Domain.{IsSpan, IsWithin, Meets, is_bit, spans_have}
+use Rattle.lv_spans.specs.Domain.{IsSpan, IsWithin, Meets, spans_have}
 use Rattle.lv_extents.specs.declared.extent.Extent.{Extent}
-use Rattle.lv_rules.specs.declared.told.Told.{Told}
-use Rattle.lv_rules.specs.Drives.{is_marked, names, MeetsSome, is_overdriven, is_mixed, SharesBit, AreApart, HasNoneTwice, AllSpans, IsTwice, IsShared}
-use Rattle.lv_rules.proofs.Lists.{IsSome, some_of, any_of, not_both, IsFront, take_get, get_take, any_step, none_in}
+use Rattle.lv_rules.specs.Drives.{is_marked, MeetsSome, is_overdriven, is_mixed, SharesBit, AreApart, HasNoneTwice, AllSpans, IsTwice}
+use Rattle.lv_rules.proofs.Lists.{IsSome, some_of, any_of, not_both, IsFront, take_get, get_take, any_step}
 
 -- ---- one span more
 

@@ -1,11 +1,11 @@
 -- The cells of the signals of a flat design.
-use Rattle.std.proofs.Common.{◌≡◌, ℕ, zero, suc, ◌+◌, ◌-◌, ◌<◌, ◌≤◌, min, max, Bool, true, false, ◌&&◌, List, [], ◌∷◌, ◌++◌, length, map, take, refl, ap, sym, subst, ◌∙◌, inl, inr, arith, length-append, Option, Some, None}
-use Rattle.std.specs.Prelude.{bytes_eq, decimal, if◌then◌else◌, nat_lt, not}
+use Rattle.std.proofs.Common.{◌≡◌, ℕ, zero, suc, ◌+◌, ◌-◌, ◌<◌, ◌≤◌, true, false, List, [], ◌∷◌, length, map, take, refl, ap, sym, subst, ◌∙◌, inl, inr, arith, length-append, Option, Some, None}
+use Rattle.std.specs.Prelude.{bytes_eq, decimal, nat_lt, not}
 use Rattle.std.specs.List.{list_any, range_with_len}
 use Rattle.std.proofs.lemmas.Bool.{ltb-false, cases_order}
 use Rattle.lv_ast.specs.Names.{Name, at_index}
 use Rattle.lv_source.specs.Names.{Bounds, Declared, width_of, is_signal_sort, low, high, size}
-use Rattle.lv_source.specs.Places.{cells, cells_by, within}
+use Rattle.lv_source.specs.Places.{cells, cells_by}
 use Rattle.lv_source.proofs.Tests.{or-left, or-split, and-left, and-right, not-true, any-map, any-range, name-itself, same_name}
 use Rattle.lv_source.proofs.Trees.{HasCell}
 use Rattle.lv_flat.specs.Cells.{Cell, cell_at, cell_of, cells_of, all_cells, AreDistinct}

@@ -1,6 +1,6 @@
 -- Which signals a list of bits touches, by the spans that have the bits.
-use Rattle.std.proofs.Common.{◌≡◌, ℕ, zero, suc, ◌+◌, ◌-◌, ◌*◌, ◌/◌, ◌%◌, ◌^◌, ◌<◌, ◌≤◌, min, max, Bool, true, false, ◌&&◌, ◌||◌, ◌==◌, not, List, [], ◌∷◌, ◌++◌, length, map, refl, ap, sym, subst, ◌∙◌, inl, inr, arith, Option, Some, None}
-use Rattle.std.specs.Prelude.{bytes_eq, nat_lt, All, filter, slice_get, flat_map, slice_index_or}
+use Rattle.std.proofs.Common.{◌≡◌, ℕ, zero, suc, ◌/◌, ◌%◌, ◌^◌, ◌<◌, ◌≤◌, Bool, true, false, ◌&&◌, ◌||◌, ◌==◌, not, List, [], ◌++◌, refl, ap, sym, subst, ◌∙◌, inl, inr, arith, Option, Some, None}
+use Rattle.std.specs.Prelude.{nat_lt, All, slice_get}
 use Rattle.std.specs.List.{list_any}
 use Rattle.std.specs.Int.{bit_at}
 use Rattle.std.proofs.lemmas.Bool.{cases_eq, cases_lt, eqb-true, eq-eqb, lt-ltb, le-ltb, ltb-true}
@@ -8,10 +8,10 @@ use Rattle.std.proofs.lemmas.Nat.Bits.{bit_at_lowest, bit_at-suc, bit_at_above}
 use Rattle.std.proofs.lemmas.List.Folds.{list_any-append}
 use Rattle.std.proofs.lemmas.List.Elements.{All-append, All-nil}
 use Rattle.std.proofs.lemmas.Option.{slice_get_within, get_or_from_slice_get, slice_get-get_or}
-use Rattle.lv_source.specs.Names.{Bounds, Declared, Sort, width_of, is_signal_sort, low, high, size}
-use Rattle.lv_source.specs.Places.{Bit, has_bit, whole, cells, within}
+use Rattle.lv_source.specs.Names.{Bounds, Declared, width_of, is_signal_sort, low, high}
+use Rattle.lv_source.specs.Places.{Bit, has_bit, whole, cells}
 use Rattle.lv_source.specs.PartRules.{touches}
-use Rattle.lv_source.proofs.Tests.{or-left, or-right, or-split, and-left, and-right, and-both, any-left, any-right}
+use Rattle.lv_source.proofs.Tests.{or-split, and-left, and-right, and-both}
 use Rattle.lv_source.proofs.Trees.{HasCell}
 use Rattle.lv_source.proofs.Within.{cells_have}
 use Rattle.lv_source.proofs.Drives.{whole_place}
@@ -21,7 +21,7 @@ use Rattle.lv_flat.specs.Signals.{Signals, signal_at}
 use Rattle.lv_lower_exprs.proofs.Wholes.{signal_in}
 use Rattle.lv_spans.specs.declared.span.Span.{Span}
 use Rattle.lv_spans.specs.Sets.{Cell, is_set, is_under}
-use Rattle.lv_spans.specs.Domain.{is_element_in, is_cell, is_bit, name_by, bit_of, spans_have, IsSetOf, IsSpan, AreSpansOf}
+use Rattle.lv_spans.specs.Domain.{is_element_in, is_cell, is_bit, bit_of, spans_have, IsSpan, AreSpansOf}
 use Rattle.lv_rules.specs.Rules.{unclocked}
 use Rattle.lv_rules.proofs.Lists.{same_tests, IsSome, some_of, any_of, any_more, any_filter}
 use Rattle.lv_rules.proofs.Signals.{has_element, one_signal}

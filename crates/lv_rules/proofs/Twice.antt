@@ -1,8 +1,8 @@
 -- TwoDrivers, by extents.
-use Rattle.std.proofs.Common.{◌≡◌, ℕ, zero, suc, ◌+◌, ◌<◌, ◌≤◌, Bool, true, false, not, ◌&&◌, ◌||◌, ◌==◌, List, [], ◌∷◌, ◌++◌, map, take, drop, length, refl, ap, sym, subst, ◌∙◌, inl, inr, arith, Option, Some, None}
-use Rattle.std.specs.Prelude.{slice_get, All, Contains, if◌then◌else◌}
+use Rattle.std.proofs.Common.{◌≡◌, ℕ, suc, ◌+◌, ◌<◌, Bool, true, false, not, ◌&&◌, ◌||◌, List, map, take, drop, length, refl, ap, sym, subst, ◌∙◌, inl, inr, arith, Option, Some, None}
+use Rattle.std.specs.Prelude.{slice_get, Contains, if◌then◌else◌}
 use Rattle.std.specs.List.{list_any}
-use Rattle.std.proofs.lemmas.Bool.{cases_order, cases_Bool}
+use Rattle.std.proofs.lemmas.Bool.{cases_order}
 use Rattle.std.proofs.lemmas.List.Folds.{list_any-append}
 use Rattle.std.proofs.lemmas.Option.{slice_get_within}
 use Rattle.lv_ast.specs.Names.{Name}
@@ -11,25 +11,25 @@ use Rattle.lv_source.specs.Places.{Bit, has_bit}
 use Rattle.lv_source.specs.Parts.{At}
 use Rattle.lv_source.specs.PartRules.{told_if, touches, others, has_twice}
 use Rattle.lv_source.specs.ScopeRules.{same_sign}
-use Rattle.lv_source.specs.Views.{View, is_edge, is_continuous, at_view, at_views, aimed_at, view_driven, is_mixed_view, is_two_view, is_two_view_but, two_views}
-use Rattle.lv_source.proofs.Tests.{or-left, or-right, or-split, and-both, and-left, and-right, or-none_left, or-none_right}
+use Rattle.lv_source.specs.Views.{View, is_edge, is_continuous, at_view, aimed_at, view_driven, is_mixed_view, is_two_view, two_views}
+use Rattle.lv_source.proofs.Tests.{or-left, or-split, and-both}
 use Rattle.lv_source.proofs.Unique.{some_bit_with, bit_with}
 use Rattle.lv_flat.specs.Cells.{AreDistinct, all_cells}
 use Rattle.lv_flat.specs.Signals.{Signals, signal_at}
 use Rattle.lv_lower_exprs.proofs.Wholes.{signal_in}
 use Rattle.lv_spans.specs.declared.span.Span.{Span}
 use Rattle.lv_spans.specs.Sets.{Cell}
-use Rattle.lv_spans.specs.Domain.{is_bit, bit_of, spans_have, IsSpan, AreSpansOf}
+use Rattle.lv_spans.specs.Domain.{is_bit, bit_of, spans_have, IsSpan}
 use Rattle.lv_extents.specs.declared.extent.Extent.{Extent}
 use Rattle.lv_extents.specs.Extents.{IsExtent, AreExtents, way_of}
 use Rattle.lv_rules.specs.declared.told.Told.{Told}
 use Rattle.lv_rules.specs.declared.marks.Class.{Class}
 use Rattle.lv_rules.specs.declared.marks.Class.TheVariants.{Clocked, Unclocked}
 use Rattle.lv_rules.specs.Rules.{unclocked, path_of, IsAnswer}
-use Rattle.lv_rules.specs.Drives.{is_marked, names, is_of, is_overdriven, is_mixed, SharesBit, AreApart, HasNoneTwice, AllSpans, IsTwice, IsShared}
-use Rattle.lv_rules.proofs.Lists.{same_tests, IsSome, some_of, any_of, any_alike, IsFront, take_get, get_take, drop_get, get_drop, and_swap, none_in, not_both}
+use Rattle.lv_rules.specs.Drives.{is_marked, names, is_of, is_overdriven, is_mixed, SharesBit, AreApart, AllSpans, IsShared}
+use Rattle.lv_rules.proofs.Lists.{IsSome, some_of, any_of, any_alike, IsFront, take_get, get_take, drop_get, and_swap, not_both}
 use Rattle.lv_rules.proofs.Answering.{IsPair, IsMatched, each_get, each_back, each_any, views_none, views_has, path_is}
-use Rattle.lv_rules.proofs.Parts.{at_itself, and_shift}
+use Rattle.lv_rules.proofs.Parts.{at_itself}
 use Rattle.lv_rules.proofs.Touches.{any_touched, touches_by, all_at}
 
 -- ---- overdriven

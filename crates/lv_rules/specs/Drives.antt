@@ -1,5 +1,5 @@
 -- What parts drive together, by their extents.
-use Rattle.std.specs.Prelude.{◌≡◌, ℕ, ◌<◌, Bool, true, false, not, ◌&&◌, ◌||◌, ◌==◌, if◌then◌else◌, List, [], ◌∷◌, length, Option, Some, None, slice_index_or, slice_get, All}
+use Rattle.std.specs.Prelude.{◌≡◌, ℕ, ◌<◌, Bool, true, false, not, ◌&&◌, ◌||◌, ◌==◌, if◌then◌else◌, List, Option, Some, None, slice_index_or, slice_get, All}
 use Rattle.std.specs.List.{list_any}
 use Rattle.lv_source.specs.Names.{is_variable_sort, is_input_sort}
 use Rattle.lv_source.specs.Views.{Way, is_edge, is_continuous, is_combinational}

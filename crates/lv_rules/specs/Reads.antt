@@ -1,5 +1,5 @@
 -- Variables that are written at once and are used elsewhere, by extents.
-use Rattle.std.specs.Prelude.{◌≡◌, ℕ, Bool, true, false, not, ◌&&◌, ◌||◌, ◌==◌, if◌then◌else◌, List, [], ◌∷◌, Option, Some, None, slice_index_or, slice_get}
+use Rattle.std.specs.Prelude.{◌≡◌, ℕ, Bool, true, false, not, ◌&&◌, ◌||◌, ◌==◌, if◌then◌else◌, List, Option, Some, None, slice_index_or, slice_get}
 use Rattle.std.specs.List.{list_any}
 use Rattle.lv_source.specs.Names.{is_variable_sort}
 use Rattle.lv_source.specs.Views.{is_edge}

@@ -7,7 +7,7 @@ use Rattle.lv_source.specs.Parts.{At}
 use Rattle.lv_source.specs.PartRules.{told_if}
 use Rattle.lv_source.specs.ScopeRules.{same_sign}
 use Rattle.lv_source.specs.Summary.{leaves_latch, exposes_own}
-use Rattle.lv_source.specs.Views.{Way, Continuous, Combinational, Edge, View, is_continuous, is_combinational, at_view, aimed_at, at_views, is_wrong_view, edge_places, clock_aims, seen_places, wrong_views, clock_views, named_clocks, nonblocking_views, latch_views, first_views}
+use Rattle.lv_source.specs.Views.{Way, Continuous, Combinational, Edge, View, is_continuous, is_combinational, at_view, aimed_at, is_wrong_view, edge_places, clock_aims, seen_places, wrong_views, clock_views, named_clocks, nonblocking_views, latch_views, first_views}
 use Rattle.lv_flat.specs.declared.sort.Sort as flat
 use Rattle.lv_flat.specs.Signals.{Signals, sort_of}
 use Rattle.lv_extents.specs.declared.extent.Aim.{Aim}

@@ -3,6 +3,7 @@
 
 mod aims;
 mod blocking;
+mod clock;
 mod drivers;
 mod late;
 mod local;
@@ -14,6 +15,7 @@ mod undriven;
 mod ways;
 
 pub use blocking::first_blocking;
+pub use clock::has_clock;
 pub use drivers::first_two_drivers;
 pub use local::{LocalRule, first_local};
 pub use told::Told;

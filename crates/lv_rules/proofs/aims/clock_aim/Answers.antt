@@ -1,4 +1,3 @@
-use Rattle.std.proofs.Common.{Some, None, subst}
 use Rattle.lv_rules.specs.Rules.{is_clock_aim, aim_place}
 use Rattle.lv_rules.proofs.Found.{found_first, found_later}
 use Rattle.lv_rules.proofs.aims.clock_aim.Goals as goal

@@ -1,4 +1,4 @@
-use Rattle.std.proofs.Common.{◌≡◌, ◌<◌, ◌≤◌, length, Some, None, sym, ap, subst, ◌∙◌, arith}
+use Rattle.std.proofs.Common.{◌<◌, length, Some, subst, arith}
 use Rattle.lv_rules.specs.Rules.{IsFound, is_clock_aim, aim_place}
 use Rattle.lv_rules.proofs.Found.{found_step, found_steps_none}
 use Rattle.lv_rules.proofs.aims.clock_in.Goals as goal

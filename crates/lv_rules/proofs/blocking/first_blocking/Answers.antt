@@ -1,4 +1,4 @@
-use Rattle.std.proofs.Common.{◌<◌, length, subst}
+use Rattle.std.proofs.Common.{◌<◌, subst}
 use Rattle.std.proofs.lemmas.List.{length-map}
 use Rattle.lv_flat.specs.Signals.{declared, declared_all}
 use Rattle.lv_rules.specs.Reads.{IsBlocked}

@@ -1,4 +1,4 @@
-use Rattle.std.proofs.Common.{◌≡◌, ◌<◌, ◌≤◌, length, Some, sym, subst, ◌∙◌, arith}
+use Rattle.std.proofs.Common.{◌<◌, ◌≤◌, length, Some, sym, subst, ◌∙◌, arith}
 use Rattle.lv_flat.specs.Signals.{declared_all}
 use Rattle.lv_rules.specs.Rules.{IsAnswer, local_at, unclocked}
 use Rattle.lv_rules.proofs.Answering.{IsClear, before_more, told_none, told_one}

@@ -1,4 +1,4 @@
-use Rattle.std.proofs.Common.{◌≡◌, ◌<◌, None, length, get_or, refl, arith}
+use Rattle.std.proofs.Common.{◌<◌, None, length, get_or, refl, arith}
 use Rattle.std.proofs.lemmas.Option.{slice_get-get_or}
 use Rattle.lv_spans.specs.declared.span.Span.{Span}
 use Rattle.lv_rules.proofs.Sharing.{meets-some}

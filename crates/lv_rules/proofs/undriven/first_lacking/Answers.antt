@@ -1,9 +1,6 @@
-use Rattle.std.proofs.Common.{◌≡◌, ◌<◌, ℕ, Some, true, false, length, refl, subst, arith}
-use Rattle.std.specs.Prelude.{All, slice_get}
+use Rattle.std.proofs.Common.{◌<◌, true, false, length, refl, subst, arith}
 use Rattle.std.proofs.lemmas.Option.{slice_get_read, slice_get_within}
 use Rattle.lv_flat.specs.Signals.{declared_all}
-use Rattle.lv_spans.specs.declared.span.Span.{Span}
-use Rattle.lv_spans.specs.Domain.{IsSpan}
 use Rattle.lv_rules.specs.Wires.{LacksSome}
 use Rattle.lv_rules.proofs.Answering.{before_more}
 use Rattle.lv_rules.proofs.Gaps.{ReadsCovered}

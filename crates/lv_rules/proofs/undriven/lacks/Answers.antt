@@ -1,4 +1,4 @@
-use Rattle.std.proofs.Common.{◌<◌, arith}
+use Rattle.std.proofs.Common.{arith}
 use Rattle.lv_rules.proofs.Gaps.{lacking-none, lacking-some}
 use Rattle.lv_rules.proofs.undriven.lacks.Goals as goal
 

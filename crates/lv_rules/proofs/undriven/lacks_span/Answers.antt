@@ -1,6 +1,6 @@
-use Rattle.std.proofs.Common.{◌≡◌, true, Some, sym, subst, ◌∙◌}
+use Rattle.std.proofs.Common.{sym, subst, ◌∙◌}
 use Rattle.lv_flat.specs.Signals.{declared_all}
-use Rattle.lv_rules.specs.Wires.{IsLacking, is_wired}
+use Rattle.lv_rules.specs.Wires.{IsLacking}
 use Rattle.lv_rules.proofs.Gaps.{lacks-element, lacks-common}
 use Rattle.lv_rules.proofs.undriven.lacks_span.Goals as goal
 

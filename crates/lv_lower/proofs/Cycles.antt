@@ -1,17 +1,17 @@
 -- The values of a graph's nodes in a cycle are a world that obeys the graph.
-use Rattle.std.proofs.Common.{◌≡◌, ℕ, zero, suc, ◌+◌, ◌<◌, ◌≤◌, ◌^◌, ◌==◌, Bool, true, false, cond, List, [], ◌∷◌, ◌++◌, length, take, map, refl, sym, ◌∙◌, ap, subst, arith, get_or, append_assoc}
+use Rattle.std.proofs.Common.{◌≡◌, ℕ, zero, suc, ◌+◌, ◌<◌, ◌^◌, ◌==◌, List, [], ◌∷◌, ◌++◌, length, refl, sym, ◌∙◌, ap, subst, arith, append_assoc}
 use Rattle.std.specs.Prelude.{if◌then◌else◌}
 use Rattle.std.proofs.lemmas.List.{append-nil, length-append, get_or_append_left, get_or_at}
 use Rattle.lv_bits.specs.Words.{Bits}
-use Rattle.lv_bits.specs.Values.{unary_of, binary_of, extended}
+use Rattle.lv_bits.specs.Values.{unary_of, binary_of}
 use Rattle.lv_netlist.specs.declared.node.Node as declared
 use Rattle.lv_netlist.specs.declared.node.Node.TheVariants.{Input, Reg, Const, Un, Bin, Mux, Slice, Cat, Ext}
 use Rattle.lv_netlist.specs.declared.node.Typed.{Typed}
-use Rattle.lv_netlist.specs.Net.{Net, IsNet, IsNode, IsRight, node_at, width_at}
+use Rattle.lv_netlist.specs.Net.{Net, IsNet, IsRight, node_at}
 use Rattle.lv_netlist.specs.Run.{no_bits, bits_at, node_bits, values_from, values_of}
 use Rattle.lv_netlist.specs.Fits.{FitsInputs, FitsState, AreWords}
 use Rattle.lv_netlist.proofs.Words.{values_fit}
-use Rattle.lv_values.specs.Worlds.{World, Obeys}
+use Rattle.lv_values.specs.Worlds.{Obeys}
 
 -- the values of operands below k are those of any list that begins alike
 same_operands : (net : Net) (state inputs before after : List Bits) (n : declared.Node) → IsRight net (length before) n → node_bits state inputs before n ≡ node_bits state inputs (before ++ after) n

@@ -1,5 +1,5 @@
 -- The cycles of a lowered graph and the settled valuations of its design are one.
-use Rattle.std.proofs.Common.{◌≡◌, ◌≢◌, inl, inr, ℕ, zero, suc, ◌+◌, ◌/◌, ◌%◌, ◌^◌, ◌<◌, ◌≤◌, Bool, true, false, List, [], ◌∷◌, ◌++◌, length, map, refl, sym, ap, ◌∙◌, arith, subst, get_or, Option, Some, None}
+use Rattle.std.proofs.Common.{◌≡◌, inl, inr, ℕ, zero, suc, ◌+◌, ◌/◌, ◌%◌, ◌^◌, ◌<◌, Bool, true, false, List, [], ◌∷◌, length, map, refl, sym, ap, ◌∙◌, arith, subst, get_or, Some, None}
 use Rattle.std.specs.Prelude.{flat_map, filter, cond, bytes_eq, All, if◌then◌else◌}
 use Rattle.std.specs.List.{list_any, range_with_len}
 use Rattle.std.proofs.lemmas.Bool.{cases_lt}
@@ -13,7 +13,7 @@ use Rattle.lv_model.specs.Design.{Observers, machine_of}
 use Rattle.lv_source.specs.Names.{Declared, Valuation, width_of, is_input_sort}
 use Rattle.lv_source.specs.Places.{Bit, bit_at, has_bit, same_bit, cells, bits_below}
 use Rattle.lv_source.specs.Parts.{is_signal, width_from}
-use Rattle.lv_source.specs.Views.{View, is_register_view, view_registers, register_view_bits, next_view_bit, IsViewSettled, ViewFollows}
+use Rattle.lv_source.specs.Views.{View, is_register_view, register_view_bits, next_view_bit, IsViewSettled, ViewFollows}
 use Rattle.lv_source.proofs.Each.{Each, each-join}
 use Rattle.lv_source.proofs.Tests.{or-left, or-right, or-split, any-left, any-right, any-split, name-itself, same_name, same_bits, has-head}
 use Rattle.lv_source.proofs.Bridges.{two}
@@ -24,19 +24,16 @@ use Rattle.lv_source.proofs.Facts.{all_bits_in, all_names}
 use Rattle.lv_netlist.specs.declared.node.Register.{Register}
 use Rattle.lv_netlist.specs.Net.{Net, IsNet, HasNexts, input_at, input_name, input_width, register_at, register_name, register_width, register_next, width_at}
 use Rattle.lv_netlist.specs.Run.{no_bits, bits_at, values_of, next_bits, next_state}
-use Rattle.lv_netlist.specs.Fits.{FitsInputs, FitsState, AreWords}
 use Rattle.lv_netlist.specs.Stepping.{GraphCycle, stepper_of, graph_machine}
 use Rattle.lv_model.specs.Stepper.{stepped}
 use Rattle.lv_flat.specs.Cells.{Cell, cell_of, cells_of, all_cells, cell_at, AreDistinct}
 use Rattle.lv_flat.specs.Signals.{Signals}
-use Rattle.lv_values.specs.Worlds.{World, Obeys}
-use Rattle.lv_lower_exprs.specs.Tables.{Shows, value_at}
+use Rattle.lv_values.specs.Worlds.{Obeys}
 use Rattle.lv_settles.specs.Rules.{signals_in, input_names, register_names}
 use Rattle.lv_settles.proofs.Cells.{same_signal, width_is, some_named}
 use Rattle.lv_settles.proofs.Lists.{signal_of}
 use Rattle.lv_settles.proofs.Settling.{all_of}
 use Rattle.lv_source.proofs.Kids.{in_index}
-use Rattle.lv_lower.specs.Started.{valuation_of}
 use Rattle.lv_lower.specs.Lowered.{IsGiven, IsLowered, entry_of, register_entry}
 use Rattle.lv_lower.specs.Machines.{view_design, world_of, cycle_valuation, through}
 use Rattle.lv_lower.proofs.Cycles.{cycle-obeys}
@@ -250,7 +247,7 @@ module _ (S : Signals) (vs : List View) (net : Net) (table first : List ℕ) (lo
       (let r : (list_any (bytes_eq b.name) (register_names ds vs) ≡ true) × (b.place < width_from ds b.name) = named-bit (width_from ds) (register_names ds vs) b x in
       let i : (i : ℕ) × (i < length net.registers) × (register_name net i ≡ b.name) = register-find b.name r.0 in
       let below : b.place < register_width net i.0 = (let p : b.place < width_from ds b.name = r.1 in
-          let q : width_from ds b.name ≡ register_width net i.0 = ap (width_from ds) (sym i.2) ∙ register-fits i.0 i.1 in omega arith) in
+      let q : width_from ds b.name ≡ register_width net i.0 = ap (width_from ds) (sym i.2) ∙ register-fits i.0 i.1 in omega arith) in
       ap (λ n. n / 2 ^ b.place % 2) (ap (from e) (sym i.2) ∙ ((given e k).registers i.0 i.1 ∙ ap (λ ws. (bits_at ws i.0).value) s)) ∙
       (next-bit c h i.0 b.place i.1 below ∙ ap (λ n. next_view_bit vs (from c) (let y : Bit = record { name = n; place = b.place } in y)) i.2)))
 
@@ -283,14 +280,18 @@ module _ (S : Signals) (vs : List View) (net : Net) (table first : List ℕ) (lo
   module _ (v : Valuation) (settled : IsViewSettled ds vs v) where
     cycle : IsCycle (to v)
     cycle = (
-      (record { count = length-map net.registers (register-word v); widths = λ i b. ap (λ (x : Bits). x.width) (state-at v i b) },
-      λ i b. (let e : length (map (register-word v) net.registers) ≡ length net.registers = length-map net.registers (register-word v) in
-          let l : i < length net.registers = omega arith in
-          subst (λ (x : Bits). x.value < 2 ^ x.width) (sym (state-at v i l)) (subst (λ n. v (register_name net i) < 2 ^ n) (register-fits i l) (settled.fits (register_name net i))))),
-      (record { count = length-map net.inputs (input-word v); widths = λ i b. ap (λ (x : Bits). x.width) (input-here v i b) },
-      λ i b. (let e : length (map (input-word v) net.inputs) ≡ length net.inputs = length-map net.inputs (input-word v) in
-          let l : i < length net.inputs = omega arith in
-          subst (λ (x : Bits). x.value < 2 ^ x.width) (sym (input-here v i l)) (subst (λ n. v (input_name net i) < 2 ^ n) (input-fits i l) (settled.fits (input_name net i))))),
+      (
+        record { count = length-map net.registers (register-word v); widths = λ i b. ap (λ (x : Bits). x.width) (state-at v i b) },
+        λ i b. (let e : length (map (register-word v) net.registers) ≡ length net.registers = length-map net.registers (register-word v) in
+            let l : i < length net.registers = omega arith in
+            subst (λ (x : Bits). x.value < 2 ^ x.width) (sym (state-at v i l)) (subst (λ n. v (register_name net i) < 2 ^ n) (register-fits i l) (settled.fits (register_name net i)))),
+      ),
+      (
+        record { count = length-map net.inputs (input-word v); widths = λ i b. ap (λ (x : Bits). x.width) (input-here v i b) },
+        λ i b. (let e : length (map (input-word v) net.inputs) ≡ length net.inputs = length-map net.inputs (input-word v) in
+            let l : i < length net.inputs = omega arith in
+            subst (λ (x : Bits). x.value < 2 ^ x.width) (sym (input-here v i l)) (subst (λ n. v (input_name net i) < 2 ^ n) (input-fits i l) (settled.fits (input_name net i)))),
+      ),
     )
 
     has : IsGiven net (world_of net (to v)) v

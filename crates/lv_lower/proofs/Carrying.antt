@@ -56,7 +56,8 @@ all-once (e ∷ es) h =
 plain-by : (S : Signals) (p : FlatPart) (body : FlatBody) → p.body ≡ body → is_edge (flat_view S p).way ≡ false → IsClear (flat_view S p) → is_plain S body ≡ true
 plain-by S p (b.Assign t x) e w c = refl
 plain-by S p (b.Combinational s) e w c =
-    all-once (flow S s).events (subst (λ (y : FlatBody). list_any (λ (e : Seen). is_combinational (flat_view S (record p { body = y })).way && not e.at_once) (flat_view S (record p { body = y })).events ≡ false) e c.once)
+    all-once (flow S s).events (subst (λ (y : FlatBody). list_any (λ (e : Seen). is_combinational (flat_view S (record p { body = y })).way && not e.at_once) (flat_view S
+    (record p { body = y })).events ≡ false) e c.once)
 plain-by S p (b.Clocked k s) e w c = absurd (let t : true ≡ false = subst (λ (y : FlatBody). is_edge (flat_view S (record p { body = y })).way ≡ false) e w in cc)
 
 module _ (S : Signals) (ps : List FlatPart) (order : List ℕ) (right : AreRight (signals_in S) (flat_views S ps)) (o : IsOrder (flat_views S ps) order) where

@@ -113,7 +113,8 @@ among-cells (x ∷ xs) d name (inl e) h = any-left (bytes_eq name) (cells x) (fl
 among-cells (x ∷ xs) d name (inr i) h = any-right (bytes_eq name) (cells x) (flat_map cells xs) (among-cells xs d name i h)
 
 -- a bit of names with their widths
-named-bit : (width : Name → ℕ) (names : List Name) (b : Bit) → has_bit (flat_map (λ name. bits_below (width name) name) names) b ≡ true → (list_any (bytes_eq b.name) names ≡ true) × (b.place < width b.name)
+named-bit : (width : Name → ℕ) (names : List Name) (b : Bit) → has_bit (flat_map (λ name. bits_below (width name) name) names) b ≡ true →
+    (list_any (bytes_eq b.name) names ≡ true) × (b.place < width b.name)
 named-bit width [] b h = cc
 named-bit width (n ∷ ns) b h = elim (any-split (same_bit b) (bits_below (width n) n) (flat_map (λ name. bits_below (width name) name) ns) h) [
   | inl k ↦ (
@@ -123,7 +124,8 @@ named-bit width (n ∷ ns) b h = elim (any-split (same_bit b) (bits_below (width
   | inr k ↦ (let r : (list_any (bytes_eq b.name) ns ≡ true) × (b.place < width b.name) = named-bit width ns b k in (or-right (bytes_eq b.name n) (list_any (bytes_eq b.name) ns) r.0, r.1))
 ]
 
-has-named : (width : Name → ℕ) (names : List Name) (name : Name) (j : ℕ) → list_any (bytes_eq name) names ≡ true → j < width name → has_bit (flat_map (λ name. bits_below (width name) name) names) (record { name = name; place = j }) ≡ true
+has-named : (width : Name → ℕ) (names : List Name) (name : Name) (j : ℕ) → list_any (bytes_eq name) names ≡ true → j < width name →
+    has_bit (flat_map (λ name. bits_below (width name) name) names) (record { name = name; place = j }) ≡ true
 has-named width [] name j h b = cc
 has-named width (n ∷ ns) name j h b =
     let x : Bit = record { name = name; place = j } in
@@ -133,7 +135,8 @@ has-named width (n ∷ ns) name j h b =
       | inr e ↦ any-right (same_bit x) (bits_below (width n) n) (flat_map (λ name. bits_below (width name) name) ns) (has-named width ns name j e b)
     ]
 
-module _ (S : Signals) (vs : List View) (net : Net) (table first : List ℕ) (lowered : IsLowered S vs net table first) (right : IsNet net) (nexts : HasNexts net) (distinct : AreDistinct (all_cells S)) where
+module _ (S : Signals) (vs : List View) (net : Net) (table first : List ℕ) (lowered : IsLowered S vs net table first) (right : IsNet net) (nexts : HasNexts net) (distinct : AreDistinct
+    (all_cells S)) where
   abbrev ds : List Declared
   ds = signals_in S
 
@@ -229,7 +232,8 @@ module _ (S : Signals) (vs : List View) (net : Net) (table first : List ℕ) (lo
     | Some m ↦ λ e. (m, refl)
   ] refl
 
-  next-word : (c : GraphCycle) (i : ℕ) → i < length net.registers → (m : ℕ) → register_next net i ≡ Some m → bits_at (next_state net (values_of net c.state c.input)) i ≡ bits_at (values_of net c.state c.input) m
+  next-word : (c : GraphCycle) (i : ℕ) → i < length net.registers → (m : ℕ) → register_next net i ≡ Some m →
+      bits_at (next_state net (values_of net c.state c.input)) i ≡ bits_at (values_of net c.state c.input) m
   next-word c i b m e =
       nth-map (next_bits (values_of net c.state c.input)) net.registers i _ no_bits b ∙
       ap (λ o. elim o as (λ _. Bits) [ Some m ↦ bits_at (values_of net c.state c.input) m | None ↦ no_bits ]) e
@@ -320,7 +324,8 @@ module _ (S : Signals) (vs : List View) (net : Net) (table first : List ℕ) (lo
         | inl below ↦ (
             let b' : Bit = record { name = register_name net i; place = j } in
             all_bits_in (λ b. bit_at u b ≡ next_view_bit vs v b) (register_view_bits ds vs) f b'
-            (has-named (width_from ds) (register_names ds vs) (register_name net i) j (register-named i b) (let e : width_from ds (register_name net i) ≡ register_width net i = register-fits i b in omega arith)) ∙
+            (has-named (width_from ds) (register_names ds vs) (register_name net i) j (register-named i b) (let e : width_from ds
+            (register_name net i) ≡ register_width net i = register-fits i b in omega arith)) ∙
             (ap (λ (z : Valuation). next_view_bit vs z b') (sym (same v sv)) ∙ sym (lowered.next (world_of net (to v)) i o b m.0 j m.1 below)))
         | inr over ↦
             bit_at_above (u (register_name net i)) (register_width net i) j (subst (λ n. u (register_name net i) < 2 ^ n) (register-fits i b) (su.fits (register_name net i))) over ∙

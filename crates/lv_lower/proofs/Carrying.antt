@@ -1,9 +1,9 @@
 -- One more part of an order.
-use Rattle.std.proofs.Common.{◌≡◌, inl, inr, ℕ, zero, suc, ◌+◌, ◌<◌, ◌≤◌, Bool, true, false, ◌&&◌, not, List, [], ◌∷◌, ◌++◌, length, map, take, refl, sym, ap, ◌∙◌, arith, subst, get_or, Option, Some, None}
-use Rattle.std.specs.Prelude.{slice_get, IsTrue}
+use Rattle.std.proofs.Common.{◌≡◌, ℕ, zero, suc, ◌+◌, ◌<◌, true, false, ◌&&◌, not, List, [], ◌∷◌, ◌++◌, length, map, take, refl, sym, ap, ◌∙◌, arith, subst, get_or, Some}
+use Rattle.std.specs.Prelude.{slice_get}
 use Rattle.std.specs.List.{list_any, list_all}
 use Rattle.std.proofs.lemmas.List.{take_more}
-use Rattle.lv_source.specs.Names.{Declared, Valuation}
+use Rattle.lv_source.specs.Names.{Valuation}
 use Rattle.lv_source.specs.Flow.{Event}
 use Rattle.lv_source.specs.Views.{View, Seen, seen_of, is_edge, is_combinational}
 use Rattle.lv_source.proofs.Tests.{and-left, and-right, and-both, or-none_left, or-none_right, not-false}
@@ -17,7 +17,6 @@ use Rattle.lv_flat.specs.Flows.{flow}
 use Rattle.lv_flat.specs.Signals.{Signals}
 use Rattle.lv_flat.specs.Good.{good_body, are_good}
 use Rattle.lv_flat.specs.FlatViews.{after, flat_view, flat_views}
-use Rattle.lv_values.specs.Worlds.{World, Obeys, Grows}
 use Rattle.lv_values.proofs.Growth.{grows-refl, grows-trans, obeys-before}
 use Rattle.lv_lower_exprs.specs.Tables.{IsTable, Shows}
 use Rattle.lv_settles.specs.Orders.{IsOrder, after_one, carried}
@@ -57,7 +56,8 @@ all-once (e ∷ es) h =
 plain-by : (S : Signals) (p : FlatPart) (body : FlatBody) → p.body ≡ body → is_edge (flat_view S p).way ≡ false → IsClear (flat_view S p) → is_plain S body ≡ true
 plain-by S p (b.Assign t x) e w c = refl
 plain-by S p (b.Combinational s) e w c =
-    all-once (flow S s).events (subst (λ (y : FlatBody). list_any (λ (e : Seen). is_combinational (flat_view S (record p { body = y })).way && not e.at_once) (flat_view S (record p { body = y })).events ≡ false) e c.once)
+    all-once (flow S s).events (subst (λ (y : FlatBody). list_any (λ (e : Seen). is_combinational (flat_view S (record p { body = y })).way && not e.at_once) (flat_view S
+    (record p { body = y })).events ≡ false) e c.once)
 plain-by S p (b.Clocked k s) e w c = absurd (let t : true ≡ false = subst (λ (y : FlatBody). is_edge (flat_view S (record p { body = y })).way ≡ false) e w in cc)
 
 module _ (S : Signals) (ps : List FlatPart) (order : List ℕ) (right : AreRight (signals_in S) (flat_views S ps)) (o : IsOrder (flat_views S ps) order) where

@@ -109,7 +109,8 @@ module _ (S : Signals) (vs : List View) (order : List ℕ) (net : Net) (table : 
         ap (λ z. (node_bits w.state w.inputs w.values z).value) (ap (λ (t : Typed). t.node) (carries.grows.same at (inside S vs net carries.grows distinct at b)) ∙ e)
 
     -- a cell that isn't 0 at first keeps its value
-    cell-kept : (at : ℕ) → at < length ss → ((d : Declared) → (slot_at ss at).kind ≡ kind_by (is_input_sort d.sort) (is_register_view vs d) → (is_register_view vs d ≡ true) ⊎ (is_input_sort d.sort ≡ true)) →
+    cell-kept : (at : ℕ) → at < length ss → ((d : Declared) → (slot_at ss at).kind ≡ kind_by (is_input_sort d.sort) (is_register_view vs d) →
+        (is_register_view vs d ≡ true) ⊎ (is_input_sort d.sort ≡ true)) →
         valuation_of w cs table (slot_at ss at).name ≡ value_at w at
     cell-kept at b f =
         let s : SlotOf S vs (slot_at ss at) = slot-of S vs at b in
@@ -187,7 +188,8 @@ module _ (S : Signals) (vs : List View) (order : List ℕ) (net : Net) (table : 
             (let x : (i : ℕ) × (x : Declared) × (slice_get ds i ≡ Some x) × (is_register_view vs x ≡ true) × (list_any (bytes_eq name) (cells x) ≡ true) = cell_of (is_register_view vs) ds name h in
             same-name x.1 name (in_index x.1 ds x.0 x.2) x.4 (no_zero_register x.1 (is_input_sort x.1.sort) x.3)));
         inputs = all_of (λ name. start name ≡ v name) (input_names ds) (λ name h.
-            (let x : (i : ℕ) × (x : Declared) × (slice_get ds i ≡ Some x) × (is_input_sort x.sort ≡ true) × (list_any (bytes_eq name) (cells x) ≡ true) = cell_of (λ x. is_input_sort x.sort) ds name h in
+            (let x : (i : ℕ) × (x : Declared) × (slice_get ds i ≡ Some x) × (is_input_sort x.sort ≡ true) × (list_any (bytes_eq name) (cells x) ≡ true) = cell_of
+            (λ x. is_input_sort x.sort) ds name h in
             same-name x.1 name (in_index x.1 ds x.0 x.2) x.4 (no_zero_input x.1 x.3)));
       }
 

@@ -51,7 +51,8 @@ record NextOf (ss : List Slot) (ms : List ℕ) (i : ℕ) : Type 0 where
   below : at < length ss
   is : register_at (next_all (registers_in ss) (held_in ss ms)) i ≡ ((slot_at ss at).name, (let r : Register = record { width = (slot_at ss at).width; next = Some (slice_index ms at) } in r))
 
-deeper : (s : Slot) (ss : List Slot) (m : ℕ) (ms : List ℕ) (i j : ℕ) → register_at (next_all (registers_in (s ∷ ss)) (held_in (s ∷ ss) (m ∷ ms))) j ≡ register_at (next_all (registers_in ss) (held_in ss ms)) i →
+deeper : (s : Slot) (ss : List Slot) (m : ℕ) (ms : List ℕ) (i j : ℕ) →
+    register_at (next_all (registers_in (s ∷ ss)) (held_in (s ∷ ss) (m ∷ ms))) j ≡ register_at (next_all (registers_in ss) (held_in ss ms)) i →
     NextOf ss ms i → NextOf (s ∷ ss) (m ∷ ms) j
 deeper s ss m ms i j e h = record { at = suc h.at; below = (let b : h.at < length ss = h.below in omega arith); is = e ∙ h.is }
 
@@ -122,7 +123,8 @@ one-input true register cs = input-entries cs
 one-input false true cs = no-inputs k.Register (λ e. (let x : k.Register ≡ k.Input = e in cc)) cs
 one-input false false cs = no-inputs k.Zero (λ e. (let x : k.Zero ≡ k.Input = e in cc)) cs
 
-one-register : (input register : Bool) (cs : List Cell) → (register ≡ true → input ≡ false) → map register_entry (registers_in (map (slot_by (kind_by input register)) cs)) ≡ map entry_of (if_cells register cs)
+one-register : (input register : Bool) (cs : List Cell) → (register ≡ true → input ≡ false) →
+    map register_entry (registers_in (map (slot_by (kind_by input register)) cs)) ≡ map entry_of (if_cells register cs)
 one-register true true cs f = absurd (let e : true ≡ false = f refl in cc)
 one-register true false cs f = ap (map register_entry) (no-registers k.Input (λ e. (let x : k.Input ≡ k.Register = e in cc)) cs)
 one-register false true cs f = register-entries cs
@@ -130,10 +132,12 @@ one-register false false cs f = ap (map register_entry) (no-registers k.Zero (λ
 
 -- a clock has no cells
 chosen-cells : (q : Declared → Bool) (d : Declared) (S : Signals) → all_cells (filter q (signals_in (d ∷ S))) ≡ if_cells (q d) (cells_of d) ++ all_cells (filter q (signals_in S))
-chosen-cells q d S = elim (is_signal d) as (λ b. is_signal d ≡ b → all_cells (filter q (cond b (d ∷ signals_in S) (signals_in S))) ≡ if_cells (q d) (cells_of d) ++ all_cells (filter q (signals_in S))) [
-  | true ↦ λ e. elim (q d) as (λ c. all_cells (cond c (d ∷ filter q (signals_in S)) (filter q (signals_in S))) ≡ if_cells c (cells_of d) ++ all_cells (filter q (signals_in S))) [ true ↦ refl | false ↦ refl ]
-  | false ↦ λ e. ap (λ cs. cs ++ all_cells (filter q (signals_in S))) (sym (no-cells (q d) d e))
-] refl
+chosen-cells q d S = elim (is_signal d) as (λ b. is_signal d ≡ b →
+    all_cells (filter q (cond b (d ∷ signals_in S) (signals_in S))) ≡ if_cells (q d) (cells_of d) ++ all_cells (filter q (signals_in S))) [
+      | true ↦ λ e. elim (q d) as (λ c. all_cells (cond c (d ∷ filter q (signals_in S)) (filter q (signals_in S))) ≡ if_cells c (cells_of d) ++ all_cells (filter q
+          (signals_in S))) [ true ↦ refl | false ↦ refl ]
+      | false ↦ λ e. ap (λ cs. cs ++ all_cells (filter q (signals_in S))) (sym (no-cells (q d) d e))
+    ] refl
 
 inputs-cells : (vs : List View) (S : Signals) → inputs_in (all_slots vs S) ≡ map entry_of (all_cells (filter (λ x. is_input_sort x.sort) (signals_in S)))
 inputs-cells vs [] = refl
@@ -195,7 +199,8 @@ module _ (S : Signals) (vs : List View) (order : List ℕ) (old : net.Net) (tabl
   found : (i : ℕ) → i < length new.registers → NextOf ss done i
   found i b = next-of ss done done-count i (subst (λ (rs : List (List ℕ × Register)). i < length rs) registers-old (subst (λ n. i < n) (count-next old.registers (held_in ss done)) b))
 
-  entry-of : (i : ℕ) (b : i < length new.registers) → register_at new.registers i ≡ ((slot_at ss (found i b).at).name, (let r : Register = record { width = (slot_at ss (found i b).at).width; next = Some (slice_index done (found i b).at) } in r))
+  entry-of : (i : ℕ) (b : i < length new.registers) →
+      register_at new.registers i ≡ ((slot_at ss (found i b).at).name, (let r : Register = record { width = (slot_at ss (found i b).at).width; next = Some (slice_index done (found i b).at) } in r))
   entry-of i b = ap (λ (rs : List (List ℕ × Register)). register_at (next_all rs (held_in ss done)) i) registers-old ∙ (found i b).is
 
   pub has_nexts : HasNexts new

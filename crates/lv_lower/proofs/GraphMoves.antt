@@ -1,5 +1,5 @@
 -- The cycles of a lowered graph and the settled valuations of its design are one.
-use Rattle.std.proofs.Common.{◌≡◌, ◌≢◌, inl, inr, ℕ, zero, suc, ◌+◌, ◌/◌, ◌%◌, ◌^◌, ◌<◌, ◌≤◌, Bool, true, false, List, [], ◌∷◌, ◌++◌, length, map, refl, sym, ap, ◌∙◌, arith, subst, get_or, Option, Some, None}
+use Rattle.std.proofs.Common.{◌≡◌, inl, inr, ℕ, zero, suc, ◌+◌, ◌/◌, ◌%◌, ◌^◌, ◌<◌, Bool, true, false, List, [], ◌∷◌, length, map, refl, sym, ap, ◌∙◌, arith, subst, get_or, Some, None}
 use Rattle.std.specs.Prelude.{flat_map, filter, cond, bytes_eq, All, if◌then◌else◌}
 use Rattle.std.specs.List.{list_any, range_with_len}
 use Rattle.std.proofs.lemmas.Bool.{cases_lt}
@@ -13,7 +13,7 @@ use Rattle.lv_model.specs.Design.{Observers, machine_of}
 use Rattle.lv_source.specs.Names.{Declared, Valuation, width_of, is_input_sort}
 use Rattle.lv_source.specs.Places.{Bit, bit_at, has_bit, same_bit, cells, bits_below}
 use Rattle.lv_source.specs.Parts.{is_signal, width_from}
-use Rattle.lv_source.specs.Views.{View, is_register_view, view_registers, register_view_bits, next_view_bit, IsViewSettled, ViewFollows}
+use Rattle.lv_source.specs.Views.{View, is_register_view, register_view_bits, next_view_bit, IsViewSettled, ViewFollows}
 use Rattle.lv_source.proofs.Each.{Each, each-join}
 use Rattle.lv_source.proofs.Tests.{or-left, or-right, or-split, any-left, any-right, any-split, name-itself, same_name, same_bits, has-head}
 use Rattle.lv_source.proofs.Bridges.{two}
@@ -24,19 +24,16 @@ use Rattle.lv_source.proofs.Facts.{all_bits_in, all_names}
 use Rattle.lv_netlist.specs.declared.node.Register.{Register}
 use Rattle.lv_netlist.specs.Net.{Net, IsNet, HasNexts, input_at, input_name, input_width, register_at, register_name, register_width, register_next, width_at}
 use Rattle.lv_netlist.specs.Run.{no_bits, bits_at, values_of, next_bits, next_state}
-use Rattle.lv_netlist.specs.Fits.{FitsInputs, FitsState, AreWords}
 use Rattle.lv_netlist.specs.Stepping.{GraphCycle, stepper_of, graph_machine}
 use Rattle.lv_model.specs.Stepper.{stepped}
 use Rattle.lv_flat.specs.Cells.{Cell, cell_of, cells_of, all_cells, cell_at, AreDistinct}
 use Rattle.lv_flat.specs.Signals.{Signals}
-use Rattle.lv_values.specs.Worlds.{World, Obeys}
-use Rattle.lv_lower_exprs.specs.Tables.{Shows, value_at}
+use Rattle.lv_values.specs.Worlds.{Obeys}
 use Rattle.lv_settles.specs.Rules.{signals_in, input_names, register_names}
 use Rattle.lv_settles.proofs.Cells.{same_signal, width_is, some_named}
 use Rattle.lv_settles.proofs.Lists.{signal_of}
 use Rattle.lv_settles.proofs.Settling.{all_of}
 use Rattle.lv_source.proofs.Kids.{in_index}
-use Rattle.lv_lower.specs.Started.{valuation_of}
 use Rattle.lv_lower.specs.Lowered.{IsGiven, IsLowered, entry_of, register_entry}
 use Rattle.lv_lower.specs.Machines.{view_design, world_of, cycle_valuation, through}
 use Rattle.lv_lower.proofs.Cycles.{cycle-obeys}
@@ -116,7 +113,8 @@ among-cells (x ∷ xs) d name (inl e) h = any-left (bytes_eq name) (cells x) (fl
 among-cells (x ∷ xs) d name (inr i) h = any-right (bytes_eq name) (cells x) (flat_map cells xs) (among-cells xs d name i h)
 
 -- a bit of names with their widths
-named-bit : (width : Name → ℕ) (names : List Name) (b : Bit) → has_bit (flat_map (λ name. bits_below (width name) name) names) b ≡ true → (list_any (bytes_eq b.name) names ≡ true) × (b.place < width b.name)
+named-bit : (width : Name → ℕ) (names : List Name) (b : Bit) → has_bit (flat_map (λ name. bits_below (width name) name) names) b ≡ true →
+    (list_any (bytes_eq b.name) names ≡ true) × (b.place < width b.name)
 named-bit width [] b h = cc
 named-bit width (n ∷ ns) b h = elim (any-split (same_bit b) (bits_below (width n) n) (flat_map (λ name. bits_below (width name) name) ns) h) [
   | inl k ↦ (
@@ -126,7 +124,8 @@ named-bit width (n ∷ ns) b h = elim (any-split (same_bit b) (bits_below (width
   | inr k ↦ (let r : (list_any (bytes_eq b.name) ns ≡ true) × (b.place < width b.name) = named-bit width ns b k in (or-right (bytes_eq b.name n) (list_any (bytes_eq b.name) ns) r.0, r.1))
 ]
 
-has-named : (width : Name → ℕ) (names : List Name) (name : Name) (j : ℕ) → list_any (bytes_eq name) names ≡ true → j < width name → has_bit (flat_map (λ name. bits_below (width name) name) names) (record { name = name; place = j }) ≡ true
+has-named : (width : Name → ℕ) (names : List Name) (name : Name) (j : ℕ) → list_any (bytes_eq name) names ≡ true → j < width name →
+    has_bit (flat_map (λ name. bits_below (width name) name) names) (record { name = name; place = j }) ≡ true
 has-named width [] name j h b = cc
 has-named width (n ∷ ns) name j h b =
     let x : Bit = record { name = name; place = j } in
@@ -136,7 +135,8 @@ has-named width (n ∷ ns) name j h b =
       | inr e ↦ any-right (same_bit x) (bits_below (width n) n) (flat_map (λ name. bits_below (width name) name) ns) (has-named width ns name j e b)
     ]
 
-module _ (S : Signals) (vs : List View) (net : Net) (table first : List ℕ) (lowered : IsLowered S vs net table first) (right : IsNet net) (nexts : HasNexts net) (distinct : AreDistinct (all_cells S)) where
+module _ (S : Signals) (vs : List View) (net : Net) (table first : List ℕ) (lowered : IsLowered S vs net table first) (right : IsNet net) (nexts : HasNexts net) (distinct : AreDistinct
+    (all_cells S)) where
   abbrev ds : List Declared
   ds = signals_in S
 
@@ -232,7 +232,8 @@ module _ (S : Signals) (vs : List View) (net : Net) (table first : List ℕ) (lo
     | Some m ↦ λ e. (m, refl)
   ] refl
 
-  next-word : (c : GraphCycle) (i : ℕ) → i < length net.registers → (m : ℕ) → register_next net i ≡ Some m → bits_at (next_state net (values_of net c.state c.input)) i ≡ bits_at (values_of net c.state c.input) m
+  next-word : (c : GraphCycle) (i : ℕ) → i < length net.registers → (m : ℕ) → register_next net i ≡ Some m →
+      bits_at (next_state net (values_of net c.state c.input)) i ≡ bits_at (values_of net c.state c.input) m
   next-word c i b m e =
       nth-map (next_bits (values_of net c.state c.input)) net.registers i _ no_bits b ∙
       ap (λ o. elim o as (λ _. Bits) [ Some m ↦ bits_at (values_of net c.state c.input) m | None ↦ no_bits ]) e
@@ -250,7 +251,7 @@ module _ (S : Signals) (vs : List View) (net : Net) (table first : List ℕ) (lo
       (let r : (list_any (bytes_eq b.name) (register_names ds vs) ≡ true) × (b.place < width_from ds b.name) = named-bit (width_from ds) (register_names ds vs) b x in
       let i : (i : ℕ) × (i < length net.registers) × (register_name net i ≡ b.name) = register-find b.name r.0 in
       let below : b.place < register_width net i.0 = (let p : b.place < width_from ds b.name = r.1 in
-          let q : width_from ds b.name ≡ register_width net i.0 = ap (width_from ds) (sym i.2) ∙ register-fits i.0 i.1 in omega arith) in
+      let q : width_from ds b.name ≡ register_width net i.0 = ap (width_from ds) (sym i.2) ∙ register-fits i.0 i.1 in omega arith) in
       ap (λ n. n / 2 ^ b.place % 2) (ap (from e) (sym i.2) ∙ ((given e k).registers i.0 i.1 ∙ ap (λ ws. (bits_at ws i.0).value) s)) ∙
       (next-bit c h i.0 b.place i.1 below ∙ ap (λ n. next_view_bit vs (from c) (let y : Bit = record { name = n; place = b.place } in y)) i.2)))
 
@@ -283,14 +284,18 @@ module _ (S : Signals) (vs : List View) (net : Net) (table first : List ℕ) (lo
   module _ (v : Valuation) (settled : IsViewSettled ds vs v) where
     cycle : IsCycle (to v)
     cycle = (
-      (record { count = length-map net.registers (register-word v); widths = λ i b. ap (λ (x : Bits). x.width) (state-at v i b) },
-      λ i b. (let e : length (map (register-word v) net.registers) ≡ length net.registers = length-map net.registers (register-word v) in
-          let l : i < length net.registers = omega arith in
-          subst (λ (x : Bits). x.value < 2 ^ x.width) (sym (state-at v i l)) (subst (λ n. v (register_name net i) < 2 ^ n) (register-fits i l) (settled.fits (register_name net i))))),
-      (record { count = length-map net.inputs (input-word v); widths = λ i b. ap (λ (x : Bits). x.width) (input-here v i b) },
-      λ i b. (let e : length (map (input-word v) net.inputs) ≡ length net.inputs = length-map net.inputs (input-word v) in
-          let l : i < length net.inputs = omega arith in
-          subst (λ (x : Bits). x.value < 2 ^ x.width) (sym (input-here v i l)) (subst (λ n. v (input_name net i) < 2 ^ n) (input-fits i l) (settled.fits (input_name net i))))),
+      (
+        record { count = length-map net.registers (register-word v); widths = λ i b. ap (λ (x : Bits). x.width) (state-at v i b) },
+        λ i b. (let e : length (map (register-word v) net.registers) ≡ length net.registers = length-map net.registers (register-word v) in
+            let l : i < length net.registers = omega arith in
+            subst (λ (x : Bits). x.value < 2 ^ x.width) (sym (state-at v i l)) (subst (λ n. v (register_name net i) < 2 ^ n) (register-fits i l) (settled.fits (register_name net i)))),
+      ),
+      (
+        record { count = length-map net.inputs (input-word v); widths = λ i b. ap (λ (x : Bits). x.width) (input-here v i b) },
+        λ i b. (let e : length (map (input-word v) net.inputs) ≡ length net.inputs = length-map net.inputs (input-word v) in
+            let l : i < length net.inputs = omega arith in
+            subst (λ (x : Bits). x.value < 2 ^ x.width) (sym (input-here v i l)) (subst (λ n. v (input_name net i) < 2 ^ n) (input-fits i l) (settled.fits (input_name net i)))),
+      ),
     )
 
     has : IsGiven net (world_of net (to v)) v
@@ -319,7 +324,8 @@ module _ (S : Signals) (vs : List View) (net : Net) (table first : List ℕ) (lo
         | inl below ↦ (
             let b' : Bit = record { name = register_name net i; place = j } in
             all_bits_in (λ b. bit_at u b ≡ next_view_bit vs v b) (register_view_bits ds vs) f b'
-            (has-named (width_from ds) (register_names ds vs) (register_name net i) j (register-named i b) (let e : width_from ds (register_name net i) ≡ register_width net i = register-fits i b in omega arith)) ∙
+            (has-named (width_from ds) (register_names ds vs) (register_name net i) j (register-named i b) (let e : width_from ds
+            (register_name net i) ≡ register_width net i = register-fits i b in omega arith)) ∙
             (ap (λ (z : Valuation). next_view_bit vs z b') (sym (same v sv)) ∙ sym (lowered.next (world_of net (to v)) i o b m.0 j m.1 below)))
         | inr over ↦
             bit_at_above (u (register_name net i)) (register_width net i) j (subst (λ n. u (register_name net i) < 2 ^ n) (register-fits i b) (su.fits (register_name net i))) over ∙

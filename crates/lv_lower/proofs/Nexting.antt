@@ -64,7 +64,8 @@ held-one k.Input m name width hs ss h = h
 held-one k.Register m name width hs ss h = ap suc h
 held-one k.Zero m name width hs ss h = h
 
-first-register : (kind : Kind) (name : List ℕ) (width : ℕ) (ss : List Slot) → kind ≡ k.Register → 0 < length (registers_in ((let z : Slot = record { name = name; width = width; kind = kind } in z) ∷ ss))
+first-register : (kind : Kind) (name : List ℕ) (width : ℕ) (ss : List Slot) → kind ≡ k.Register →
+    0 < length (registers_in ((let z : Slot = record { name = name; width = width; kind = kind } in z) ∷ ss))
 first-register k.Input name width ss e = cc
 first-register k.Register name width ss e = omega arith
 first-register k.Zero name width ss e = cc
@@ -102,7 +103,8 @@ registers-one net name width k.Zero ss = refl
 
 -- ---- of the first cells
 
-held-more : (ss : List Slot) (ms : List ℕ) (i : ℕ) → i < length ss → length ms ≡ length ss → held_in (take (i + 1) ss) (take (i + 1) ms) ≡ held_in (take i ss) (take i ms) ++ held_by (slot_at ss i).kind (slice_index ms i) []
+held-more : (ss : List Slot) (ms : List ℕ) (i : ℕ) → i < length ss → length ms ≡ length ss →
+    held_in (take (i + 1) ss) (take (i + 1) ms) ≡ held_in (take i ss) (take i ms) ++ held_by (slot_at ss i).kind (slice_index ms i) []
 held-more [] ms i h l = absurd (omega arith)
 held-more (s ∷ ss) [] i h l = absurd (omega arith)
 held-more (s ∷ ss) (m ∷ ms) zero h l = refl
@@ -148,7 +150,8 @@ pub nexts-skip : (net : Net) (ss : List Slot) (ms : List ℕ) (i : ℕ) (s : Slo
 nexts-skip net ss ms i s old lt l item free o =
     let at : slot_at ss i ≡ s = get_or_default ss i _ s lt ∙ sym item in
     o ∙ ap (λ (hs : List ℕ). let z : Net = record net { registers = next_all net.registers hs } in z)
-    (sym (append-nil (held_in (take i ss) (take i ms))) ∙ (ap (λ xs. held_in (take i ss) (take i ms) ++ xs) (sym (held-free s.kind (slice_index ms i) free) ∙ ap (λ (z : Slot). held_by z.kind (slice_index ms i) []) (sym at)) ∙
+    (sym (append-nil (held_in (take i ss) (take i ms))) ∙ (ap (λ xs. held_in (take i ss) (take i ms) ++ xs) (sym (held-free s.kind (slice_index ms i) free) ∙
+    ap (λ (z : Slot). held_by z.kind (slice_index ms i) []) (sym at)) ∙
     sym (held-more ss ms i lt l)))
 
 -- the number of a register's node
@@ -159,7 +162,8 @@ register-number (s ∷ ss) net zero h e = first-number net ss s.name s.width s.k
 register-number (s ∷ ss) net (suc i) h e =
     let l : length (add_slot net s).nodes ≡ length net.nodes + 1 = added net s.name s.width s.kind in
     let at : length net.nodes + suc i ≡ length (add_slot net s).nodes + i = omega arith in
-    let c : length (add_slot net s).registers + length (registers_in (take i ss)) ≡ length net.registers + length (registers_in (s ∷ take i ss)) = registers-one net s.name s.width s.kind (take i ss) in
+    let c : length (add_slot net s).registers + length (registers_in (take i ss)) ≡ length net.registers + length (registers_in (s ∷ take i ss)) = registers-one net s.name s.width s.kind
+    (take i ss) in
     ap (λ z. (node_at (net_from (add_slot net s) ss).nodes z).node) at ∙ (register-number ss (add_slot net s) i (omega arith) e ∙ ap n.Reg c)
 
 pub nexts-none : (net : Net) → net ≡ with_nexts net [] []
@@ -188,7 +192,8 @@ module _ (ss : List Slot) (net : Net) (grown : Grows (net_from no_nodes ss) net)
   width-here i h =
       let b : i < length (net_from no_nodes ss).nodes = (let c : length (net_from no_nodes ss).nodes ≡ length ss = begun in omega arith) in
       let z : 0 + i ≡ i = omega arith in
-      ap (λ t. t.width) (grown.same i b) ∙ (ap (λ at. width_at (net_from no_nodes ss).nodes at) (sym z) ∙ stands-width (slot_at ss i).kind (net_from no_nodes ss) (0 + i) (slot_at ss i).name (slot_at ss i).width (stands no_nodes ss i h))
+      ap (λ t. t.width) (grown.same i b) ∙ (ap (λ at. width_at (net_from no_nodes ss).nodes at) (sym z) ∙
+      stands-width (slot_at ss i).kind (net_from no_nodes ss) (0 + i) (slot_at ss i).name (slot_at ss i).width (stands no_nodes ss i h))
 
 pub cell-count : (ss : List Slot) → length (map cell_in ss) ≡ length ss
 cell-count ss = length-map ss cell_in

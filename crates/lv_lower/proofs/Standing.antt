@@ -111,7 +111,8 @@ kept-node net (x ∷ ss) at b =
     kept-node (add_slot net x) ss at (let e : length (add_slot net x).nodes ≡ length net.nodes + 1 = added net x.name x.width x.kind in omega arith) ∙
     (longer-add net x.name x.width x.kind).nodes at b
 
-pub new-node : (net : Net) (ss : List Slot) (name : List ℕ) (width : ℕ) (kind : Kind) (t : Typed) → node_at (add_slot net (record { name = name; width = width; kind = kind })).nodes (length net.nodes) ≡ t →
+pub new-node : (net : Net) (ss : List Slot) (name : List ℕ) (width : ℕ) (kind : Kind) (t : Typed) →
+    node_at (add_slot net (record { name = name; width = width; kind = kind })).nodes (length net.nodes) ≡ t →
     node_at (net_from net ((let z : Slot = record { name = name; width = width; kind = kind } in z) ∷ ss)).nodes (length net.nodes + 0) ≡ t
 new-node net ss name width kind t h =
     (let z : length net.nodes + 0 ≡ length net.nodes = omega arith in ap (λ at. node_at (net_from net ((let z : Slot = record { name = name; width = width; kind = kind } in z) ∷ ss)).nodes at) z) ∙
@@ -134,7 +135,8 @@ input-deeper net s ss i j e f c =
     let at : length net.nodes + suc c.0 ≡ length (add_slot net s).nodes + c.0 = omega arith in
     (suc c.0, omega arith, c.2, ap (λ z. (node_at (net_from (add_slot net s) ss).nodes z).node) at ∙ (c.3 ∙ ap n.Input e), f ∙ c.4)
 
-register-deeper : (net : Net) (s : Slot) (ss : List Slot) (i j : ℕ) → length (add_slot net s).registers + i ≡ length net.registers + j → register_at (registers_in (s ∷ ss)) j ≡ register_at (registers_in ss) i →
+register-deeper : (net : Net) (s : Slot) (ss : List Slot) (i j : ℕ) → length (add_slot net s).registers + i ≡ length net.registers + j →
+    register_at (registers_in (s ∷ ss)) j ≡ register_at (registers_in ss) i →
     RegisterCell (add_slot net s) ss i → RegisterCell net (s ∷ ss) j
 register-deeper net s ss i j e f c =
     let l : length (add_slot net s).nodes ≡ length net.nodes + 1 = added net s.name s.width s.kind in
@@ -153,7 +155,8 @@ input-by net ss f name width k.Input zero b = (
   refl,
 )
 input-by net ss f name width k.Input (suc i) b =
-    input-deeper net _ ss i (suc i) (let e : length (net.inputs ++ (name, width) ∷ []) ≡ length net.inputs + 1 = length-append net.inputs ((name, width) ∷ []) in omega arith) refl (f _ i (omega arith))
+    input-deeper net _ ss i (suc i) (let e : length (net.inputs ++ (name, width) ∷ []) ≡ length net.inputs + 1 = length-append net.inputs ((name, width) ∷ []) in omega arith) refl (f _ i
+    (omega arith))
 input-by net ss f name width k.Register i b = input-deeper net _ ss i i refl refl (f _ i b)
 input-by net ss f name width k.Zero i b = input-deeper net _ ss i i refl refl (f _ i b)
 
@@ -172,7 +175,8 @@ register-by net ss f name width k.Register zero b = (
   refl,
 )
 register-by net ss f name width k.Register (suc i) b =
-    register-deeper net _ ss i (suc i) (let e : length (net.registers ++ a_register name width ∷ []) ≡ length net.registers + 1 = length-append net.registers (a_register name width ∷ []) in omega arith) refl
+    register-deeper net _ ss i (suc i) (let e : length (net.registers ++ a_register name width ∷ []) ≡ length net.registers + 1 = length-append net.registers
+    (a_register name width ∷ []) in omega arith) refl
     (f _ i (omega arith))
 register-by net ss f name width k.Input i b = register-deeper net _ ss i i refl refl (f _ i b)
 register-by net ss f name width k.Zero i b = register-deeper net _ ss i i refl refl (f _ i b)

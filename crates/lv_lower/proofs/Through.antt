@@ -1,5 +1,5 @@
 -- Two designs are one machine under observers of what the one gives of the other.
-use Rattle.std.proofs.Common.{◌≡◌, ◌≢◌, ℕ, zero, suc, Bool, List, [], ◌∷◌, ◌++◌, length, map, refl, sym, ap, ◌∙◌, subst, Option, Some, None}
+use Rattle.std.proofs.Common.{◌≡◌, ◌≢◌, ℕ, zero, suc, Bool, List, [], ◌∷◌, ◌++◌, map, refl, sym, ap, ◌∙◌, subst}
 use Rattle.std.specs.Prelude.{All, slice_get, nat_eq, if◌then◌else◌}
 use Rattle.std.proofs.lemmas.List.{length-map}
 use Rattle.std.proofs.lemmas.List.Elements.{All-nil, All-cons, All-head, All-tail}
@@ -89,12 +89,12 @@ module _ (V W : Type 0) (f : W → V) where
       same_inputs = there.same_inputs;
       allowed = λ v h a. all-there Nonzero o.assume (to v) (to v) (subst (λ (x : V). All (λ (e : V → ℕ). e x ≢ 0) o.assume) (sym (same v h)) a);
       initial = λ l r h i p. (
-          all-there Alike o.equal (to l) (to r)
-          (subst (λ (x : V). All (λ (e : V → ℕ). e x ≡ e (f (to r))) o.equal) (sym (same l h)) (subst (λ (x : V). All (λ (e : V → ℕ). e l ≡ e x) o.equal) (sym (same r i)) p.0)),
-          all-there Both o.each (to l) (to r)
-          (subst (λ (x : V). All (λ (e : V → ℕ). (e x ≢ 0) × (e (f (to r)) ≢ 0)) o.each) (sym (same l h))
-          (subst (λ (x : V). All (λ (e : V → ℕ). (e l ≢ 0) × (e x ≢ 0)) o.each) (sym (same r i)) p.1)),
-        );
+        all-there Alike o.equal (to l) (to r)
+            (subst (λ (x : V). All (λ (e : V → ℕ). e x ≡ e (f (to r))) o.equal) (sym (same l h)) (subst (λ (x : V). All (λ (e : V → ℕ). e l ≡ e x) o.equal) (sym (same r i)) p.0)),
+        all-there Both o.each (to l) (to r)
+            (subst (λ (x : V). All (λ (e : V → ℕ). (e x ≢ 0) × (e (f (to r)) ≢ 0)) o.each) (sym (same l h))
+            (subst (λ (x : V). All (λ (e : V → ℕ). (e l ≢ 0) × (e x ≢ 0)) o.each) (sym (same r i)) p.1)),
+      );
       row = λ v h. row-same o.ports (to v) ∙ ap (row_of o.ports) (same v h);
       attacker = λ v h. values-same o.attacker (to v) ∙ ap (values o.attacker) (same v h);
       candidates = length-map o.candidates (candidate_through f);

@@ -1,7 +1,8 @@
 -- The cells of a flat design, and what the nodes of each are before the parts are carried out.
 use Rattle.std.specs.Prelude.{◌≡◌, ◌<◌, ℕ, Bool, List, length, take, slice_index, map, flat_map, decimal, if◌then◌else◌}
+use Rattle.std.specs.List.{range_with_len}
 use Rattle.lv_ast.specs.Names.{Name, at_index}
-use Rattle.lv_source.specs.Names.{Declared, is_input_sort}
+use Rattle.lv_source.specs.Names.{Bounds, Declared, low, size, is_input_sort}
 use Rattle.lv_source.specs.Views.{View, is_register_view}
 use Rattle.lv_flat.specs.declared.flat.Flat.{Flat}
 use Rattle.lv_flat.specs.Cells.{Cell, cells_of, all_cells}
@@ -29,6 +30,10 @@ slot_by kind c = record { name = c.name; width = c.width; kind = kind }
 
 abbrev pub element_slot : Name → ℕ → Kind → ℕ → Slot
 element_slot path width kind i = record { name = at_index path (decimal i); width = width; kind = kind }
+
+-- those of all elements
+abbrev pub element_slots : Name → ℕ → Kind → Bounds → List Slot
+element_slots path width kind b = map (element_slot path width kind) (range_with_len (low b) (size b))
 
 abbrev pub slots_of : List View → Declared → List Slot
 slots_of vs d = map (slot_by (kind_by (is_input_sort d.sort) (is_register_view vs d))) (cells_of d)

@@ -1,10 +1,9 @@
-ghost use Rattle.std.specs.Prelude.{◌≡◌, ◌+◌, ◌-◌, ◌++◌, ◌≤◌, map, length, decimal, Some, None, IfOk, OnOk};
-ghost use Rattle.std.specs.List.{range_with_len};
+ghost use Rattle.std.specs.Prelude.{◌≡◌, ◌++◌, map, length, decimal, Some, None, IfOk, OnOk};
 ghost use Rattle.lv_ast.specs.Names.{at_index};
-ghost use Rattle.lv_source.specs.Names.{low, high, is_input_sort, is_signal_sort};
+ghost use Rattle.lv_source.specs.Names.{is_input_sort, is_signal_sort};
 ghost use Rattle.lv_flat.specs.Signals.{declared};
 ghost use Rattle.lv_flat.specs.Cells.{cells_of};
-ghost use Rattle.lv_lower.specs.Slots.{kind_by, slot_by, element_slot, names_of, views_of, flags_of, all_slots, AreCounts};
+ghost use Rattle.lv_lower.specs.Slots.{kind_by, slot_by, element_slots, names_of, views_of, flags_of, all_slots, AreCounts};
 
 use lv_bits::{NoMemory, Text};
 use lv_flat::{Flat, Signal, Sort};
@@ -71,7 +70,7 @@ fn elements(
     kind: Kind,
     slots: &mut Vec<Slot>,
 ) -> Result<(), NoMemory>
-    ensures { OnOk result (slots.new.items ≡ slots.old.items ++ map (element_slot path.now width kind) (range_with_len (low (record { left = bounds.0; right = bounds.1 })) (high (record { left = bounds.0; right = bounds.1 }) - low (record { left = bounds.0; right = bounds.1 }) + 1))) }
+    ensures { OnOk result (slots.new.items ≡ slots.old.items ++ element_slots path.now width kind (record { left = bounds.0; right = bounds.1 })) }
 {
     let low = u64::from(bounds.0.min(bounds.1));
     let end = u64::from(bounds.0.max(bounds.1)) + 1;

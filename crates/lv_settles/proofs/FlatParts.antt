@@ -72,7 +72,8 @@ module _ (ds : List Declared) (at : At) (clocks : List ℕ) where
   abbrev Within : Body → Type 0
   Within body = (x : Bit) → has_bit (drives (part body)) x ≡ true → x.place < width_from ds x.name
 
-  assign_lawful : (ps : List Piece) (value : Reading) → FaithfulBody (Assign ps value) → IsClear (view_of (part (Assign ps value))) → Within (Assign ps value) → IsLawful ds (view_of (part (Assign ps value)))
+  assign_lawful : (ps : List Piece) (value : Reading) → FaithfulBody (Assign ps value) → IsClear (view_of (part (Assign ps value))) → Within (Assign ps value) →
+      IsLawful ds (view_of (part (Assign ps value)))
   assign_lawful ps value f c w = record {
     keeps = λ h v x n. put_kept ps value v f.0 x n;
     follows = λ h v u same x own. body_settles at clocks (Assign ps value) f refl refl refl refl
@@ -122,7 +123,8 @@ module _ (S : Signals) (distinct : AreDistinct (all_cells S)) where
   abbrev ds : List Declared
   ds = signals_in S
 
-  knows_by : (name : Name) → is_signal_sort (known (numbered S (record { steps = []; name = name; place = 0 }))).sort ≡ true → In (known (numbered S (record { steps = []; name = name; place = 0 }))) ds
+  knows_by : (name : Name) → is_signal_sort (known (numbered S (record { steps = []; name = name; place = 0 }))).sort ≡ true →
+      In (known (numbered S (record { steps = []; name = name; place = 0 }))) ds
   knows_by [] h = cc
   knows_by (k ∷ []) h = in_filter (signal_at S k) S k refl h
   knows_by (k ∷ l ∷ []) h = cc
@@ -156,14 +158,24 @@ module _ (S : Signals) (distinct : AreDistinct (all_cells S)) where
   lawful_by p (b.Combinational s) e c =
       let a : At = record { path = p.path; place = p.place } in
       let t : _ = has_stmt S s in
-      let same : flat_view S (record { path = p.path; place = p.place; clocks = p.clocks; body = b.Combinational s }) ≡ view_of (record { at = a; clocks = p.clocks; body = Comb (numbered S) t.tree }) =
+      let same : flat_view S (record { path = p.path; place = p.place; clocks = p.clocks; body = b.Combinational s }) ≡ view_of (record {
+        at = a;
+        clocks = p.clocks;
+        body = Comb
+            (numbered S) t.tree;
+      }) =
       combinational_alike S p.path p.place p.clocks (numbered S) t.tree s t.is in
       subst (IsLawful ds) (sym same) (comb_lawful ds a p.clocks (numbered S) t.tree (subst IsClear same c) (within a p.clocks (Comb (numbered S) t.tree) knows))
   lawful_by p (b.Clocked k s) e c =
       let a : At = record { path = p.path; place = p.place } in
       let t : _ = has_stmt S s in
       let clock : Ident = record { name = k.signal ∷ []; place = k.place } in
-      let same : flat_view S (record { path = p.path; place = p.place; clocks = p.clocks; body = b.Clocked k s }) ≡ view_of (record { at = a; clocks = p.clocks; body = Clocked (numbered S) clock t.tree }) =
+      let same : flat_view S (record { path = p.path; place = p.place; clocks = p.clocks; body = b.Clocked k s }) ≡ view_of (record {
+        at = a;
+        clocks = p.clocks;
+        body = Clocked
+            (numbered S) clock t.tree;
+      }) =
       clocked_alike S p.path p.place p.clocks (numbered S) clock t.tree k s refl refl t.is in
       subst (IsLawful ds) (sym same) (clocked_lawful ds a p.clocks (numbered S) clock t.tree (within a p.clocks (Clocked (numbered S) clock t.tree) knows))
 

@@ -139,14 +139,16 @@ module _ (S : Signals) where
         sym (source-If_else names (has_tree S c).tree h.tree k.tree)));
   }
 
-  now : (target : FlatTarget) (x : FlatExpr) (place : ℕ) → HasStmt (done_by (now_of (pieces S target) (reading S x)) (write_flow true (pieces S target) (reading S x) place) (write_summary (pieces S target) (reading S x)))
+  now : (target : FlatTarget) (x : FlatExpr) (place : ℕ) →
+      HasStmt (done_by (now_of (pieces S target) (reading S x)) (write_flow true (pieces S target) (reading S x) place) (write_summary (pieces S target) (reading S x)))
   now target x place = record {
     tree = s.Now (has_target target).tree (has_tree S x).tree place;
     is = now_by (pieces S target) (reading S x) place ∙
         (two (λ (g : Goal) (r : Reading). done_now g r place) _ _ _ _ (has_target target).is (has_tree S x).is ∙ sym (source-Now names (has_target target).tree (has_tree S x).tree place));
   }
 
-  later : (target : FlatTarget) (x : FlatExpr) (place : ℕ) → HasStmt (done_by (later_of (pieces S target) (reading S x)) (write_flow false (pieces S target) (reading S x) place) (write_summary (pieces S target) (reading S x)))
+  later : (target : FlatTarget) (x : FlatExpr) (place : ℕ) →
+      HasStmt (done_by (later_of (pieces S target) (reading S x)) (write_flow false (pieces S target) (reading S x) place) (write_summary (pieces S target) (reading S x)))
   later target x place = record {
     tree = s.Later (has_target target).tree (has_tree S x).tree place;
     is = later_by (pieces S target) (reading S x) place ∙
@@ -227,7 +229,8 @@ module _ (S : Signals) where
   M x = fold_stmt Summary (Arm Summary) (summary_step S) (arm_step S) x
 
   mutual
-    of_stmt : (x : FlatStmt) → HasStmt (done_by (fold_stmt Effect (Arm Effect) (effect_step S) (arm_step S) x) (fold_stmt Flow (Arm Flow) (flow_step S) (arm_step S) x) (fold_stmt Summary (Arm Summary) (summary_step S) (arm_step S) x))
+    of_stmt : (x : FlatStmt) → HasStmt (done_by (fold_stmt Effect (Arm Effect) (effect_step S) (arm_step S) x) (fold_stmt Flow (Arm Flow) (flow_step S) (arm_step S) x) (fold_stmt Summary
+        (Arm Summary) (summary_step S) (arm_step S) x))
     of_stmt b.Null = null
     of_stmt (b.Block' n ss) = block _ (of_stmts ss)
     of_stmt (b.If' c n x None') = if_one c _ _ _ (of_one x)
@@ -236,15 +239,20 @@ module _ (S : Signals) where
     of_stmt (b.Now target x place) = now target x place
     of_stmt (b.Later target x place) = later target x place
 
-    of_stmts : {n : _} (r : Row_of-FlatStmt n) → HasStmts (done_by (one_by_one (fold_stmts Effect (Arm Effect) (effect_step S) (arm_step S) r)) (all_flows (fold_stmts Flow (Arm Flow) (flow_step S) (arm_step S) r)) (all_summaries (fold_stmts Summary (Arm Summary) (summary_step S) (arm_step S) r)))
+    of_stmts : {n : _} (r : Row_of-FlatStmt n) →
+        HasStmts (done_by (one_by_one (fold_stmts Effect (Arm Effect) (effect_step S) (arm_step S) r)) (all_flows (fold_stmts Flow (Arm Flow) (flow_step S) (arm_step S) r)) (all_summaries
+        (fold_stmts Summary (Arm Summary) (summary_step S) (arm_step S) r)))
     of_stmts end_of-FlatStmt = none
-    of_stmts (more_of-FlatStmt x xs) = more _ _ (fold_stmt Flow (Arm Flow) (flow_step S) (arm_step S) x) (all_flows (fold_stmts Flow (Arm Flow) (flow_step S) (arm_step S) xs)) _ _ (of_stmt x) (of_stmts xs)
+    of_stmts (more_of-FlatStmt x xs) = more _ _ (fold_stmt Flow (Arm Flow) (flow_step S) (arm_step S) x) (all_flows (fold_stmts Flow (Arm Flow) (flow_step S) (arm_step S) xs)) _ _ (of_stmt x)
+        (of_stmts xs)
 
-    of_one : {n : _} (r : Row_of-FlatStmt n) → HasStmt (done_by (fold_one_stmt Effect (Arm Effect) (effect_step S) (arm_step S) r) (fold_one_stmt Flow (Arm Flow) (flow_step S) (arm_step S) r) (fold_one_stmt Summary (Arm Summary) (summary_step S) (arm_step S) r))
+    of_one : {n : _} (r : Row_of-FlatStmt n) → HasStmt (done_by (fold_one_stmt Effect (Arm Effect) (effect_step S) (arm_step S) r) (fold_one_stmt Flow (Arm Flow) (flow_step S) (arm_step S) r)
+        (fold_one_stmt Summary (Arm Summary) (summary_step S) (arm_step S) r))
     of_one end_of-FlatStmt = null
     of_one (more_of-FlatStmt x xs) = of_stmt x
 
-    of_arms : {n : _} (r : Row_of-FlatArm n) → HasArms (fold_arms Effect (Arm Effect) (effect_step S) (arm_step S) r) (fold_arms Flow (Arm Flow) (flow_step S) (arm_step S) r) (fold_arms Summary (Arm Summary) (summary_step S) (arm_step S) r)
+    of_arms : {n : _} (r : Row_of-FlatArm n) → HasArms (fold_arms Effect (Arm Effect) (effect_step S) (arm_step S) r) (fold_arms Flow (Arm Flow) (flow_step S) (arm_step S) r) (fold_arms Summary
+        (Arm Summary) (summary_step S) (arm_step S) r)
     of_arms end_of-FlatArm = no_arms
     of_arms (more_of-FlatArm labels body xs) = more_arms labels _ _ _ _ _ _ (of_stmt body) (of_arms xs)
 

@@ -75,9 +75,11 @@ cell_of q (x ∷ xs) n h = elim (q x) as (λ c. q x ≡ c → list_any (bytes_eq
     (i : ℕ) × (y : Declared) × (slice_get (x ∷ xs) i ≡ Some y) × (q y ≡ true) × (list_any (bytes_eq n) (cells y) ≡ true)) [
       | true ↦ λ e k. elim (any-split (bytes_eq n) (cells x) (flat_map cells (filter q xs)) k) [
         | inl m ↦ (0, x, refl, e, m)
-        | inr m ↦ (let rest : (i : ℕ) × (y : Declared) × (slice_get xs i ≡ Some y) × (q y ≡ true) × (list_any (bytes_eq n) (cells y) ≡ true) = cell_of q xs n m in (suc rest.0, rest.1, rest.2, rest.3, rest.4))
+        | inr m ↦ (let rest : (i : ℕ) × (y : Declared) × (slice_get xs i ≡ Some y) × (q y ≡ true) × (list_any (bytes_eq n) (cells y) ≡ true) = cell_of q xs n m in
+            (suc rest.0, rest.1, rest.2, rest.3, rest.4))
       ]
-      | false ↦ λ e k. (let rest : (i : ℕ) × (y : Declared) × (slice_get xs i ≡ Some y) × (q y ≡ true) × (list_any (bytes_eq n) (cells y) ≡ true) = cell_of q xs n k in (suc rest.0, rest.1, rest.2, rest.3, rest.4))
+      | false ↦ λ e k. (let rest : (i : ℕ) × (y : Declared) × (slice_get xs i ≡ Some y) × (q y ≡ true) × (list_any (bytes_eq n) (cells y) ≡ true) = cell_of q xs n k in
+          (suc rest.0, rest.1, rest.2, rest.3, rest.4))
     ] refl h
 
 pub all_bits_by : (P : Bit → Type 0) (q : Bit → Bool) (bs : List Bit) → ((b : Bit) → has_bit bs b ≡ true → q b ≡ true → P b) → All P (filter q bs)
@@ -94,7 +96,8 @@ all_by P q (p ∷ ps) f = elim (q p) as (λ c. q p ≡ c → All P (cond c (p �
   | false ↦ λ e. all_by P q ps (λ k x g h. f (suc k) x g h)
 ] refl
 
-pub whole_of : (q : Declared → Bool) (ds : List Declared) (b : Bit) → has_bit (flat_map whole (filter q ds)) b ≡ true → (i : ℕ) × (x : Declared) × (slice_get ds i ≡ Some x) × (q x ≡ true) × (has_bit (whole x) b ≡ true)
+pub whole_of : (q : Declared → Bool) (ds : List Declared) (b : Bit) → has_bit (flat_map whole (filter q ds)) b ≡ true →
+    (i : ℕ) × (x : Declared) × (slice_get ds i ≡ Some x) × (q x ≡ true) × (has_bit (whole x) b ≡ true)
 whole_of q [] b h = cc
 whole_of q (x ∷ xs) b h = elim (q x) as (λ c. q x ≡ c → has_bit (flat_map whole (cond c (x ∷ filter q xs) (filter q xs))) b ≡ true →
     (i : ℕ) × (y : Declared) × (slice_get (x ∷ xs) i ≡ Some y) × (q y ≡ true) × (has_bit (whole y) b ≡ true)) [
@@ -102,7 +105,8 @@ whole_of q (x ∷ xs) b h = elim (q x) as (λ c. q x ≡ c → has_bit (flat_map
         | inl m ↦ (0, x, refl, e, m)
         | inr m ↦ (let rest : (i : ℕ) × (y : Declared) × (slice_get xs i ≡ Some y) × (q y ≡ true) × (has_bit (whole y) b ≡ true) = whole_of q xs b m in (suc rest.0, rest.1, rest.2, rest.3, rest.4))
       ]
-      | false ↦ λ e k. (let rest : (i : ℕ) × (y : Declared) × (slice_get xs i ≡ Some y) × (q y ≡ true) × (has_bit (whole y) b ≡ true) = whole_of q xs b k in (suc rest.0, rest.1, rest.2, rest.3, rest.4))
+      | false ↦ λ e k. (let rest : (i : ℕ) × (y : Declared) × (slice_get xs i ≡ Some y) × (q y ≡ true) × (has_bit (whole y) b ≡ true) = whole_of q xs b k in
+          (suc rest.0, rest.1, rest.2, rest.3, rest.4))
     ] refl h
 
 below_named : (ks : List ℕ) (n : Name) (b : Bit) → has_bit (map (λ k. record { name = n; place = k }) ks) b ≡ true → b.name ≡ n
@@ -122,10 +126,12 @@ cells_named width (n ∷ ns) b h = elim (any-split (same_bit b) (bits_below widt
 ]
 
 -- a name that is no signal, or a signal that has it
-pub signal_of : (ds : List Declared) (name : Name) → (width_from ds name ≡ 0) ⊎ ((k : ℕ) × (x : Declared) × (slice_get ds k ≡ Some x) × (list_any (bytes_eq name) (cells x) ≡ true) × (width_from ds name ≡ width_of x))
+pub signal_of : (ds : List Declared) (name : Name) →
+    (width_from ds name ≡ 0) ⊎ ((k : ℕ) × (x : Declared) × (slice_get ds k ≡ Some x) × (list_any (bytes_eq name) (cells x) ≡ true) × (width_from ds name ≡ width_of x))
 signal_of [] name = inl refl
 signal_of (x ∷ ds) name = elim (list_any (bytes_eq name) (cells x)) as (λ c. list_any (bytes_eq name) (cells x) ≡ c →
-    ((if c then width_of x else width_from ds name) ≡ 0) ⊎ ((k : ℕ) × (y : Declared) × (slice_get (x ∷ ds) k ≡ Some y) × (list_any (bytes_eq name) (cells y) ≡ true) × ((if c then width_of x else width_from ds name) ≡ width_of y))) [
+    ((if c then width_of x else width_from ds name) ≡ 0) ⊎ ((k : ℕ) × (y : Declared) × (slice_get (x ∷ ds) k ≡ Some y) × (list_any (bytes_eq name) (cells y) ≡ true) ×
+    ((if c then width_of x else width_from ds name) ≡ width_of y))) [
       | true ↦ λ e. inr (0, x, refl, e, refl)
       | false ↦ λ e. elim (signal_of ds name) [ inl h ↦ inl h | inr h ↦ inr (suc h.0, h.1, h.2, h.3, h.4) ]
     ] refl

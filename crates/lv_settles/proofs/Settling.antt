@@ -96,14 +96,17 @@ module _ (ds : List Declared) (vs : List View) (order : List ℕ) (laws : AreLaw
             (elim (decide (list_any (bytes_eq name) (register_names ds vs))) [
               | inr n ↦ n
               | inl m ↦ (
-                  let y : (i : ℕ) × (y : Declared) × (slice_get ds i ≡ Some y) × (is_register_view vs y ≡ true) × (list_any (bytes_eq name) (cells y) ≡ true) = cell_of (is_register_view vs) ds name m in
+                  let y : (i : ℕ) × (y : Declared) × (slice_get ds i ≡ Some y) × (is_register_view vs y ≡ true) × (list_any (bytes_eq name) (cells y) ≡ true) = cell_of
+                  (is_register_view vs) ds name m in
                   let same : y.1 ≡ x = apart.apart y.0 i y.1 x name y.2 e y.4 c in
-                  clash (is_register_view vs x) (ap (is_register_view vs) (sym same) ∙ y.3) (not-true (is_register_view vs x) (and-right (not (is_input_sort x.sort)) (not (is_register_view vs x)) wired)))
+                  clash (is_register_view vs x) (ap (is_register_view vs) (sym same) ∙
+                  y.3) (not-true (is_register_view vs x) (and-right (not (is_input_sort x.sort)) (not (is_register_view vs x)) wired)))
             ])
             (elim (decide (list_any (bytes_eq name) (input_names ds))) [
               | inr n ↦ n
               | inl m ↦ (
-                  let y : (i : ℕ) × (y : Declared) × (slice_get ds i ≡ Some y) × (is_input_sort y.sort ≡ true) × (list_any (bytes_eq name) (cells y) ≡ true) = cell_of (λ y. is_input_sort y.sort) ds name m in
+                  let y : (i : ℕ) × (y : Declared) × (slice_get ds i ≡ Some y) × (is_input_sort y.sort ≡ true) × (list_any (bytes_eq name) (cells y) ≡ true) = cell_of
+                  (λ y. is_input_sort y.sort) ds name m in
                   let same : y.1 ≡ x = apart.apart y.0 i y.1 x name y.2 e y.4 c in
                   clash (is_input_sort x.sort) (ap (λ (z : Declared). is_input_sort z.sort) (sym same) ∙ y.3)
                   (not-true (is_input_sort x.sort) (and-left (not (is_input_sort x.sort)) (not (is_register_view vs x)) wired)))
@@ -129,7 +132,8 @@ module _ (ds : List Declared) (vs : List View) (order : List ℕ) (laws : AreLaw
               (let x : (i : ℕ) × (x : Declared) × (slice_get ds i ≡ Some x) × (is_register_view vs x ≡ true) × (list_any (bytes_eq name) (cells x) ≡ true) = cell_of (is_register_view vs) ds name h in
               sym (start_kept x.0 x.1 name x.2 x.4 (inl x.3) (width_of_name x.0 x.1 name x.2 x.4))));
           inputs = all_of (λ name. v name ≡ left name) (input_names ds) (λ name h.
-              (let x : (i : ℕ) × (x : Declared) × (slice_get ds i ≡ Some x) × (is_input_sort x.sort ≡ true) × (list_any (bytes_eq name) (cells x) ≡ true) = cell_of (λ x. is_input_sort x.sort) ds name h in
+              (let x : (i : ℕ) × (x : Declared) × (slice_get ds i ≡ Some x) × (is_input_sort x.sort ≡ true) × (list_any (bytes_eq name) (cells x) ≡ true) = cell_of
+              (λ x. is_input_sort x.sort) ds name h in
               sym (start_kept x.0 x.1 name x.2 x.4 (inr x.3) (width_of_name x.0 x.1 name x.2 x.4))));
         }
 
@@ -161,7 +165,8 @@ module _ (ds : List Declared) (vs : List View) (order : List ℕ) (laws : AreLaw
                           | inl register ↦ by_name b (all_names (λ n. v n ≡ w n) (register_names ds vs) same.registers b.name (cells_any (is_register_view vs) ds s.0 x b.name s.2 register s.3))
                           | inr plain ↦ (
                               let wired : is_wired_view vs x ≡ true = and-both (not (is_input_sort x.sort)) (not (is_register_view vs x)) (ap not no_in) (ap not plain) in
-                              let zero : bit_at w b ≡ 0 = all_bits (λ b. bit_at w b ≡ 0) (λ b. not (view_driven vs b) && not (view_read vs b)) (flat_map whole (filter (is_wired_view vs) ds)) settled.idle b
+                              let zero : bit_at w b ≡ 0 = all_bits (λ b. bit_at w b ≡ 0) (λ b. not (view_driven vs b) && not (view_read vs b)) (flat_map whole (filter
+                              (is_wired_view vs) ds)) settled.idle b
                               (whole_any (is_wired_view vs) ds s.0 x b s.2 wired inside) (idle ds vs right s.0 x b s.2 inside wired free) in
                               ap (λ n. n / 2 ^ b.place % 2) (rest_zero s.0 x b.name s.2 wired s.3) ∙ (bit_at-zero b.place ∙ sym zero))
                         ]

@@ -8,7 +8,8 @@ use Rattle.lv_lower.proofs.begin.start.Goals as goal
 pub add-requires-clause-new : goal.add-requires-clause-new
 add-requires-clause-new c =
     subst (λ (net : Net). IsNew net c.slot-item.result.name) (sym c.loop-slot.invariant.is)
-    (subst (λ (s : Slot). IsNew (net_from no_nodes (take c.loop-slot.slot-index c.args.slots.now)) s.name) (slot-item c.args.slots.now c.loop-slot.slot-index c.slot-item.result c.loop-slot-test.true c.slot-item.is)
+    (subst (λ (s : Slot). IsNew (net_from no_nodes (take c.loop-slot.slot-index c.args.slots.now)) s.name)
+    (slot-item c.args.slots.now c.loop-slot.slot-index c.slot-item.result c.loop-slot-test.true c.slot-item.is)
     (new-name c.args.slots.now c.requires.slots c.loop-slot.slot-index c.loop-slot-test.true))
 
 pub loop-slot-preserved : goal.loop-slot-preserved

@@ -19,7 +19,8 @@ set_next-requires-clause-register c = λ h.
     let at : slot_at c.args.slots.now c.loop-k.k ≡ c.index-slots-k.result = slot-item c.args.slots.now c.loop-k.k c.index-slots-k.result c.loop-k-test.true c.index-slots-k.is in
     let held : is_held (slot_at c.args.slots.now c.loop-k.k).kind ≡ true = ap (λ (s : Slot). is_held s.kind) at ∙ h in (
       subst (λ (ns : List Typed). c.loop-k.k < length ns) (sym nodes) (here c.args.slots.now c.args.b.now c.requires.grown c.loop-k.k c.loop-k-test.true),
-      ap (λ x. is_some (register_of x)) (ap (λ (ns : List Typed). (node_at ns c.loop-k.k).node) nodes ∙ register-here c.args.slots.now c.args.b.now c.requires.grown c.loop-k.k c.loop-k-test.true held),
+      ap (λ x. is_some (register_of x)) (ap (λ (ns : List Typed). (node_at ns c.loop-k.k).node) nodes ∙
+          register-here c.args.slots.now c.args.b.now c.requires.grown c.loop-k.k c.loop-k-test.true held),
     )
 
 pub set_next-requires-clause-same : goal.set_next-requires-clause-same
@@ -43,7 +44,8 @@ loop-k-preserved c =
           let held : is_held (slot_at ss k).kind ≡ true = ap (λ (s : Slot). is_held s.kind) at ∙ h in
           let number : register_of (node_at c.loop-k.b.nodes k).node ≡ Some (length (registers_in (take k ss))) =
           ap register_of (ap (λ (ns : List Typed). (node_at ns k).node) nodes ∙ register-here ss net c.requires.grown k c.loop-k-test.true held) in
-          nexts-more net ss c.args.done.now k c.index-slots-k.result c.loop-k.b c.set_next.new.b c.loop-k-test.true many c.index-slots-k.is h (registers-some ss net c.requires.grown) c.loop-k.invariant
+          nexts-more net ss c.args.done.now k c.index-slots-k.result c.loop-k.b c.set_next.new.b c.loop-k-test.true many c.index-slots-k.is h
+          (registers-some ss net c.requires.grown) c.loop-k.invariant
           (subst (λ (o : Option ℕ). IfSome o (λ i. c.set_next.new.b ≡ with_next c.loop-k.b i (slice_index c.args.done.now k))) number (c.set_next.ensures.held h)))
       | inr h ↦ c.set_next.ensures.free h ∙ nexts-skip net ss c.args.done.now k c.index-slots-k.result c.loop-k.b c.loop-k-test.true many c.index-slots-k.is h c.loop-k.invariant
     ]

@@ -1,11 +1,11 @@
-use Rattle.std.proofs.Common.{◌≡◌, ◌∙◌, ℕ, ◌<◌, List, length, true, ap, sym, subst, get_or, Some}
+use Rattle.std.proofs.Common.{◌≡◌, ◌∙◌, ℕ, List, ap, subst, get_or, Some}
 use Rattle.std.specs.Prelude.{slice_get, slice_index_or}
 use Rattle.std.proofs.lemmas.List.{get_or_default}
 use Rattle.lv_flat.specs.declared.signal.Signal.{Signal}
 use Rattle.lv_flat.specs.declared.part.FlatPart.{FlatPart}
 use Rattle.lv_flat.specs.Signals.{Signals, declared_all}
 use Rattle.lv_flat.specs.Good.{good_body}
-use Rattle.lv_lower.specs.Slots.{names_of, views_of}
+use Rattle.lv_lower.specs.Slots.{names_of}
 use Rattle.lv_lower.specs.Carrying.{is_plain, Leaves}
 use Rattle.lv_lower.proofs.Carrying.{get-at, good-at, order-below, order-plain, carries-more}
 use Rattle.lv_lower.proofs.parts.carry.Goals as goal

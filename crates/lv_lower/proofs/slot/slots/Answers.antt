@@ -15,8 +15,10 @@ loop-k-preserved c =
     record {
       slots = slots-more (views_of c.args.flat.now) c.args.flat.now.signals c.loop-k.k c.signal-item.result c.loop-k.all.items c.cells.new.slots.items c.kind_of-kind.result below item
           c.loop-k.invariant.slots
-          (c.kind_of-kind.ensures ∙ ap (kind_by (is_input_sort (declared c.signal-item.result).sort)) (flag-at (views_of c.args.flat.now) c.args.flat.now.signals c.args.registers.now c.loop-k.k c.signal-item.result _
+          (c.kind_of-kind.ensures ∙ ap (kind_by (is_input_sort (declared c.signal-item.result).sort)) (flag-at
+          (views_of c.args.flat.now) c.args.flat.now.signals c.args.registers.now c.loop-k.k c.signal-item.result _
           below item c.requires))
           c.in_ok-cells.ensures;
-      first = counts-more (views_of c.args.flat.now) c.args.flat.now.signals c.loop-k.k c.loop-k.first.items _ c.loop-k.all.items below c.loop-k.invariant.slots c.loop-k.invariant.first (c.in_ok-push.ensures.items ∙ ap (λ n. c.loop-k.first.items ++ n ∷ []) (let e : c.len.result ≡ length c.loop-k.all.items = omega (arith, c.len.ensures, c.loop-k.all.ok.0) in e));
+      first = counts-more (views_of c.args.flat.now) c.args.flat.now.signals c.loop-k.k c.loop-k.first.items _ c.loop-k.all.items below c.loop-k.invariant.slots c.loop-k.invariant.first
+          (c.in_ok-push.ensures.items ∙ ap (λ n. c.loop-k.first.items ++ n ∷ []) (let e : c.len.result ≡ length c.loop-k.all.items = omega (arith, c.len.ensures, c.loop-k.all.ok.0) in e));
     }

@@ -9,3 +9,4 @@ pub mod Judging
 pub mod Deciding
 pub mod Testing
 pub mod Writing
+pub mod Fitting

@@ -2,6 +2,7 @@
 use Rattle.std.specs.Prelude.{◌≡◌, ◌≢◌, ℕ, ◌+◌, ◌<◌, Bool, true, false, List, [], length, slice_index, Option, Some, None}
 use Rattle.lv_bits.specs.Words.{Bits}
 use Rattle.lv_cert.specs.declared.cert.Cert.{Cert}
+use Rattle.lv_cert.specs.declared.cert.Shape.{Shape}
 use Rattle.lv_check.specs.Answer.{IsFailure}
 use Rattle.lv_clauses.specs.Derivations.{Step as Line}
 use Rattle.lv_clauses.specs.declared.line.Spent.{Spent}
@@ -28,6 +29,14 @@ pub record FitsCert (task : Task) (cert : Cert) : Type 0 where
   pub left : length cert.left.items ≡ length task.graph.registers
   pub right : length cert.right.items ≡ length task.graph.registers
   pub input : length cert.input.items ≡ length task.graph.inputs
+
+-- how many candidates, registers and inputs a task has
+abbrev pub task_shape : Task → Shape
+task_shape task = record {
+  candidates = length task.candidates.items;
+  registers = length task.graph.registers;
+  inputs = length task.graph.inputs;
+}
 
 -- the node has one number in both states, or isn't 0 in either, whatever the inputs
 abbrev pub IsSameNode : Task → Cert → ℕ → Type 0

@@ -16,5 +16,5 @@ mod start;
 
 pub use answers::{Confirmed, Learnt, Sets};
 pub use confirming::confirm;
-pub use laws::derivations_can_be_written;
+pub use laws::{certificates_fit, derivations_can_be_written};
 pub use learner::learn;

@@ -16,8 +16,8 @@ ghost use Rattle.lv_lower_exprs.specs.Tables.{IsTable, AreFirsts, Means};
 ghost use Rattle.lv_lower_exprs.specs.Named.{bounds_by, chosen_by, name_width, is_good_select, are_good_selects, is_constant_select, are_constant, bits_read, HasElement, name_word, Selects, Stands};
 
 use crate::divide::{quotient, remainder};
-use crate::sizes::{const_width, count, is_clock, literal_width, own, signal_of, signal_width};
 use crate::reach::{reach_one, reach_two};
+use crate::sizes::{const_width, count, is_clock, literal_width, own, signal_of, signal_width};
 use lv_ast::Literal;
 use lv_bits::{NoMemory, Op, Word};
 use lv_flat::{FlatExpr, FlatSelect, Signal};

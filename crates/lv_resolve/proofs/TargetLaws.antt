@@ -234,9 +234,9 @@ module _ (S : Signals) (here : Here) (driven : Bool) (path : Path) (ss : List Se
       piece-width =
           let ps : List Choice = map (read_select here.names) ss in
           let a : length (piece_place nowhere (piece_of here.names path ss)).bits ≡ p.width =
-              aimed-length (is_signal_sort (known (here.names path)).sort) (place_of (known (here.names path)) (map meant ps) nowhere) ∙
-              (ap (λ o. length (place_of (known o) (map meant ps) nowhere).bits) there ∙ (place-length d nowhere d.array (map meant ps) ∙
-              (ap (λ cs. length (bits_of d (bit_selects d.array (map meant cs)) nowhere)) (sym (chosen-reads here.names ss)) ∙ sym h.width))) in
+          aimed-length (is_signal_sort (known (here.names path)).sort) (place_of (known (here.names path)) (map meant ps) nowhere) ∙
+          (ap (λ o. length (place_of (known o) (map meant ps) nowhere).bits) there ∙ (place-length d nowhere d.array (map meant ps) ∙
+          (ap (λ cs. length (bits_of d (bit_selects d.array (map meant cs)) nowhere)) (sym (chosen-reads here.names ss)) ∙ sym h.width))) in
           let b : bits_of_pieces (piece_of here.names path ss ∷ []) ≡ p.width = bits-cons (piece_place nowhere (piece_of here.names path ss)) [] ∙ omega (arith, a) in
           sym (ap capped b ∙ few p.width p.most)
 

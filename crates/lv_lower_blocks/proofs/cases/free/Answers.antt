@@ -24,7 +24,8 @@ zeros-requires-in_default c = record {
 pub returns-in_ok-r-in-Lit : goal.returns-in_ok-r-in-Lit
 returns-in_ok-r-in-Lit c =
     let S = declared_all c.args.signals.now in
-    free-lit S c.args.label.now c.in-Lit.l c.args.wild c.args.c.now.signed c.args.c.now.width c.own-of.result.0 c.new.result c.in_ok-low-in-Lit.ensures.is c.in_ok-x-in-Lit.ensures.is c.in_ok-y-in-Lit.ensures.is
+    free-lit S c.args.label.now c.in-Lit.l c.args.wild c.args.c.now.signed c.args.c.now.width c.own-of.result.0 c.new.result
+    c.in_ok-low-in-Lit.ensures.is c.in_ok-x-in-Lit.ensures.is c.in_ok-y-in-Lit.ensures.is
     c.in_ok-r-in-Lit.ensures.is c.same.ensures (ap (λ w. w.value) c.new.ensures) (ap (λ (p : ℕ × Bool). p.0) c.own-of.ensures) (search (rules, c.if-not-wild.false)) c.in-Lit.is
 
 pub returns-in_default : goal.returns-in_default

@@ -6,7 +6,8 @@ use Rattle.lv_lower_blocks.proofs.puts.element.Goals as goal
 pub returns-in_ok-k-in-None : goal.returns-in_ok-k-in-None
 returns-in_ok-k-in-None c =
     let S = declared_all c.args.signals.now in
-    element-plain S c.args.aim.now (declared c.signal_of-signal.result.now) c.signal_of-signal.ensures c.args.n c.args.old c.in_ok-k-in-None.k c.args.x c.in-None.is c.in_ok-r-in-None.ensures c.in_ok-k-in-None.ensures
+    element-plain S c.args.aim.now (declared c.signal_of-signal.result.now) c.signal_of-signal.ensures c.args.n c.args.old c.in_ok-k-in-None.k c.args.x
+    c.in-None.is c.in_ok-r-in-None.ensures c.in_ok-k-in-None.ensures
 
 pub returns-then-is_zero : goal.returns-then-is_zero
 returns-then-is_zero c =
@@ -17,5 +18,6 @@ returns-then-is_zero c =
 pub returns-in_ok-k-in-Some : goal.returns-in_ok-k-in-Some
 returns-in_ok-k-in-Some c =
     let S = declared_all c.args.signals.now in
-    element-hit S c.args.aim.now (declared c.signal_of-signal.result.now) c.signal_of-signal.ensures c.args.n c.args.old c.in_ok-k-in-Some.k c.args.x c.signal_width-width.result c.in-Some.spot c.in-Some.is c.in_ok-hit-in-Some.ensures c.in_ok-r-in-Some.ensures
+    element-hit S c.args.aim.now (declared c.signal_of-signal.result.now) c.signal_of-signal.ensures c.args.n c.args.old c.in_ok-k-in-Some.k c.args.x
+    c.signal_width-width.result c.in-Some.spot c.in-Some.is c.in_ok-hit-in-Some.ensures c.in_ok-r-in-Some.ensures
     c.in_ok-y-in-Some.ensures.is c.in_ok-k-in-Some.ensures

@@ -37,8 +37,8 @@ number_at-old-requires c =
     let d = declared c.signal_of-signal.result.now in
     let sort : is_signal_sort (signal_at S k).sort ≡ true = ap (λ (z : Declared). is_signal_sort z.sort) c.signal_of-signal.ensures ∙
     signal-sort c.signal_of-signal.result.now.sort (sym c.is_clock.ensures ∙ c.if-is_clock.false) in
-    let h = (cells-inside S k c.number_at-at.result c.elements-of.result.1 c.loop-i.i d c.args.first.now c.signal_of-signal.ensures sort c.requires.first c.number_at-at.ensures c.elements-of.ensures.count c.loop-i.auto.i
-    (omega (arith, c.loop-i-test.true, c.end_of-end.ensures))).0 in
+    let h = (cells-inside S k c.number_at-at.result c.elements-of.result.1 c.loop-i.i d c.args.first.now c.signal_of-signal.ensures sort c.requires.first c.number_at-at.ensures
+    c.elements-of.ensures.count c.loop-i.auto.i (omega (arith, c.loop-i-test.true, c.end_of-end.ensures))).0 in
     omega (arith, h, c.requires.table.count, c.loop-i.invariant.count)
 
 pub set-requires : goal.set-requires
@@ -48,8 +48,8 @@ set-requires c =
     let d = declared c.signal_of-signal.result.now in
     let sort : is_signal_sort (signal_at S k).sort ≡ true = ap (λ (z : Declared). is_signal_sort z.sort) c.signal_of-signal.ensures ∙
     signal-sort c.signal_of-signal.result.now.sort (sym c.is_clock.ensures ∙ c.if-is_clock.false) in
-    let h = (cells-inside S k c.number_at-at.result c.elements-of.result.1 c.loop-i.i d c.args.first.now c.signal_of-signal.ensures sort c.requires.first c.number_at-at.ensures c.elements-of.ensures.count c.loop-i.auto.i
-    (omega (arith, c.loop-i-test.true, c.end_of-end.ensures))).0 in
+    let h = (cells-inside S k c.number_at-at.result c.elements-of.result.1 c.loop-i.i d c.args.first.now c.signal_of-signal.ensures sort c.requires.first c.number_at-at.ensures
+    c.elements-of.ensures.count c.loop-i.auto.i (omega (arith, c.loop-i-test.true, c.end_of-end.ensures))).0 in
     omega (arith, h, c.requires.table.count, c.loop-i.invariant.count)
 
 pub overflow_add-n : goal.overflow_add-n
@@ -62,8 +62,8 @@ element-requires-clause-old_in c =
     let d = declared c.signal_of-signal.result.now in
     let sort : is_signal_sort (signal_at S k).sort ≡ true = ap (λ (z : Declared). is_signal_sort z.sort) c.signal_of-signal.ensures ∙
     signal-sort c.signal_of-signal.result.now.sort (sym c.is_clock.ensures ∙ c.if-is_clock.false) in
-    let h = (cells-inside S k c.number_at-at.result c.elements-of.result.1 c.loop-i.i d c.args.first.now c.signal_of-signal.ensures sort c.requires.first c.number_at-at.ensures c.elements-of.ensures.count c.loop-i.auto.i
-    (omega (arith, c.loop-i-test.true, c.end_of-end.ensures))).0 in
+    let h = (cells-inside S k c.number_at-at.result c.elements-of.result.1 c.loop-i.i d c.args.first.now c.signal_of-signal.ensures sort c.requires.first c.number_at-at.ensures
+    c.elements-of.ensures.count c.loop-i.auto.i (omega (arith, c.loop-i-test.true, c.end_of-end.ensures))).0 in
     let t = rewritten-table c.loop-i.invariant c.requires.table in
     subst (λ (n : ℕ). n < length c.loop-i.b.nodes) (sym c.number_at-old.ensures) (t.within c.loop-i.i h)
 
@@ -74,8 +74,8 @@ element-requires-clause-same c =
     let d = declared c.signal_of-signal.result.now in
     let sort : is_signal_sort (signal_at S k).sort ≡ true = ap (λ (z : Declared). is_signal_sort z.sort) c.signal_of-signal.ensures ∙
     signal-sort c.signal_of-signal.result.now.sort (sym c.is_clock.ensures ∙ c.if-is_clock.false) in
-    let h = cells-inside S k c.number_at-at.result c.elements-of.result.1 c.loop-i.i d c.args.first.now c.signal_of-signal.ensures sort c.requires.first c.number_at-at.ensures c.elements-of.ensures.count c.loop-i.auto.i
-    (omega (arith, c.loop-i-test.true, c.end_of-end.ensures)) in
+    let h = cells-inside S k c.number_at-at.result c.elements-of.result.1 c.loop-i.i d c.args.first.now c.signal_of-signal.ensures sort c.requires.first c.number_at-at.ensures
+    c.elements-of.ensures.count c.loop-i.auto.i (omega (arith, c.loop-i-test.true, c.end_of-end.ensures)) in
     let t = rewritten-table c.loop-i.invariant c.requires.table in
     ap (width_at c.loop-i.b.nodes) c.number_at-old.ensures ∙ (t.widths c.loop-i.i h.0 ∙ h.1)
 
@@ -86,8 +86,8 @@ loop-i-preserved c =
     let d = declared c.signal_of-signal.result.now in
     let sort : is_signal_sort (signal_at S k).sort ≡ true = ap (λ (z : Declared). is_signal_sort z.sort) c.signal_of-signal.ensures ∙
     signal-sort c.signal_of-signal.result.now.sort (sym c.is_clock.ensures ∙ c.if-is_clock.false) in
-    let h = cells-inside S k c.number_at-at.result c.elements-of.result.1 c.loop-i.i d c.args.first.now c.signal_of-signal.ensures sort c.requires.first c.number_at-at.ensures c.elements-of.ensures.count c.loop-i.auto.i
-    (omega (arith, c.loop-i-test.true, c.end_of-end.ensures)) in
+    let h = cells-inside S k c.number_at-at.result c.elements-of.result.1 c.loop-i.i d c.args.first.now c.signal_of-signal.ensures sort c.requires.first c.number_at-at.ensures
+    c.elements-of.ensures.count c.loop-i.auto.i (omega (arith, c.loop-i-test.true, c.end_of-end.ensures)) in
     subst (λ (z : List ℕ). Rewrites c.args.b.now c.element.new.b c.args.table.now z c.number_at-at.result (c.loop-i.i + 1)
     (put_at S c.args.aim.now c.args.x c.args.table.now c.number_at-at.result c.elements-of.result.0)) (sym c.set.ensures)
     (puts-more S c.args.aim.now c.args.x c.args.table.now c.loop-i.table c.same.result c.number_at-at.result c.loop-i.i c.elements-of.result.0

@@ -1,7 +1,8 @@
 -- Each step keeps what the walk keeps.
 use Rattle.std.proofs.Common.{◌≡◌, ℕ, ◌+◌, ◌<◌, ◌≤◌, true, false, List, [], ◌∷◌, ◌++◌, take, length, get_or, set, replicate, refl, ap, sym, subst, ◌∙◌, inl, inr, arith}
 use Rattle.std.proofs.lemmas.Bool.{true≢false, cases_eq, cases_lt, lt-ltb, le-ltb, false_from_ne_true}
-use Rattle.std.proofs.lemmas.List.{length-set, length-replicate, get_or-replicate, get_or-set_same, get_or-set_other, get_or_past, length_push, get_or_append_left, get_or_push, take-append-le, take_at, same_from_push}
+use Rattle.std.proofs.lemmas.List.{length-set, length-replicate, get_or-replicate, get_or-set_same, get_or-set_other, get_or_past}
+use Rattle.std.proofs.lemmas.List.{length_push, get_or_append_left, get_or_push, take-append-le, take_at, same_from_push}
 use Rattle.lv_order.specs.declared.walk.State.{State}
 use Rattle.lv_order.specs.declared.walk.State.TheVariants.{New, Open, Done}
 use Rattle.lv_order.specs.Graphs.{Graph, has, edges_of, goes, are_distinct, leads, IsSorted}

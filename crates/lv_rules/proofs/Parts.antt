@@ -8,7 +8,8 @@ use Rattle.lv_source.specs.Names.{Declared, is_variable_sort, is_input_sort, is_
 use Rattle.lv_source.specs.Parts.{At}
 use Rattle.lv_source.specs.PartRules.{told_if, touches}
 use Rattle.lv_source.specs.ScopeRules.{same_sign}
-use Rattle.lv_source.specs.Views.{Way, Continuous, Combinational, Edge, View, Aim, Seen, is_continuous, is_combinational, at_view, at_views, aimed_at, is_wrong_aim, is_wrong_view, edge_places, clock_aims, seen_places, first_aim}
+use Rattle.lv_source.specs.Views.{Way, Continuous, Combinational, Edge, View, Aim, Seen, is_continuous, is_combinational}
+use Rattle.lv_source.specs.Views.{at_view, at_views, aimed_at, is_wrong_aim, is_wrong_view, edge_places, clock_aims, seen_places, first_aim}
 use Rattle.lv_source.proofs.Tests.{and-left, and-right}
 use Rattle.lv_flat.specs.Cells.{AreDistinct, all_cells}
 use Rattle.lv_flat.specs.Signals.{Signals, signal_at, sort_of}
@@ -16,7 +17,8 @@ use Rattle.lv_extents.specs.declared.extent.Extent.{Extent}
 use Rattle.lv_extents.specs.Extents.{IsAim, IsStep, IsExtent, way_of, all_aims}
 use Rattle.lv_rules.specs.declared.local.LocalRule.{LocalRule}
 use Rattle.lv_rules.specs.declared.local.LocalRule.TheVariants.{WrongKind, ClockUse, NamedClock, Nonblocking, Latch, ReadFirst}
-use Rattle.lv_rules.specs.Rules.{local_views, local_at, unclocked, IsPlace, is_misaimed, is_misdriven, is_other_edge, IsFound, is_clock_aim, aim_place, is_late_step, step_place, IsClockPlace, clock_place_by}
+use Rattle.lv_rules.specs.Rules.{local_views, local_at, unclocked, IsPlace, is_misaimed, is_misdriven, is_other_edge}
+use Rattle.lv_rules.specs.Rules.{IsFound, is_clock_aim, aim_place, is_late_step, step_place, IsClockPlace, clock_place_by}
 use Rattle.lv_rules.proofs.Lists.{IsSome, some_of, any_of, any_alike, filter_none, filter_has}
 use Rattle.lv_rules.proofs.Answering.{IsPair, IsMatched, each_get, each_back, each_any, head_has, told_place, mapped_has}
 use Rattle.lv_rules.proofs.Touches.{any_touched}
@@ -83,7 +85,8 @@ late_step_place S v x None h f =
     ap (λ w. is_combinational w && not e.at_once) (sym h.way) ∙ (ap (λ c. is_combinational (way_of x.way) && not c) (sym m.holds.at_once) ∙
     none_at (λ s. is_combinational (way_of x.way) && is_late_step s) x.steps k m.item f m.there)))
 late_step_place S v x (Some n) h f =
-    let r : IsSome (λ s. is_combinational (way_of x.way) && is_late_step s && (step_place s == n)) x.steps = some_of (λ s. is_combinational (way_of x.way) && is_late_step s && (step_place s == n)) x.steps f in
+    let r : IsSome (λ s. is_combinational (way_of x.way) && is_late_step s && (step_place s == n)) x.steps = some_of (λ s. is_combinational (way_of x.way)
+        && is_late_step s && (step_place s == n)) x.steps f in
     let p : IsPair (IsStep S) v.events r.at r.item = each_get (IsStep S) v.events x.steps r.at r.item h.steps r.there in
     let a : (is_combinational (way_of x.way) && is_late_step r.item) ≡ true = and-left (is_combinational (way_of x.way) && is_late_step r.item) (step_place r.item == n) r.holds in
     let b : step_place r.item ≡ n = eqb-true (step_place r.item) n (and-right (is_combinational (way_of x.way) && is_late_step r.item) (step_place r.item == n) r.holds) in

@@ -87,7 +87,8 @@ span_has S s h = let b : (i : ℕ) × (is_set s.mask i ≡ true) = some_bit s.ma
 
 -- ---- bits and cells
 
-pub bit_cell : (S : Signals) (q : Cell) (i : ℕ) → is_bit S q i ≡ true → (is_signal_sort (signal_at S q.0).sort ≡ true) × HasCell (signal_at S q.0) (bit_of S q i).name × (i < width_of (signal_at S q.0))
+pub bit_cell : (S : Signals) (q : Cell) (i : ℕ) → is_bit S q i ≡ true → (is_signal_sort (signal_at S q.0).sort ≡ true) × HasCell (signal_at S q.0)
+    (bit_of S q i).name × (i < width_of (signal_at S q.0))
 bit_cell S q i h =
     let d : Declared = signal_at S q.0 in
     let c : is_cell S q ≡ true = and-left (is_cell S q) (nat_lt i (width_of d)) h in (

@@ -7,13 +7,14 @@ use Rattle.lv_source.specs.Parts.{At}
 use Rattle.lv_source.specs.PartRules.{told_if}
 use Rattle.lv_source.specs.ScopeRules.{same_sign}
 use Rattle.lv_source.specs.Summary.{leaves_latch, exposes_own}
-use Rattle.lv_source.specs.Views.{Way, Continuous, Combinational, Edge, View, is_continuous, is_combinational, at_view, aimed_at, is_wrong_view, edge_places, clock_aims, seen_places, wrong_views, clock_views, named_clocks, nonblocking_views, latch_views, first_views}
+use Rattle.lv_source.specs.Views.{Way, Continuous, Combinational, Edge, View, is_continuous, is_combinational, at_view, aimed_at}
+use Rattle.lv_source.specs.Views.{is_wrong_view, edge_places, clock_aims, seen_places, wrong_views, clock_views, named_clocks, nonblocking_views, latch_views, first_views}
 use Rattle.lv_flat.specs.declared.sort.Sort as flat
 use Rattle.lv_flat.specs.Signals.{Signals, sort_of}
 use Rattle.lv_extents.specs.declared.extent.Aim.{Aim}
 use Rattle.lv_extents.specs.declared.extent.Step.{Step}
 use Rattle.lv_extents.specs.declared.extent.Extent.{Extent}
-use Rattle.lv_extents.specs.Extents.{way_of, all_aims}
+use Rattle.lv_extents.specs.Extents.{AreExtents, way_of, all_aims}
 use Rattle.lv_rules.specs.declared.told.Told.{Told}
 use Rattle.lv_rules.specs.declared.local.LocalRule.{LocalRule}
 use Rattle.lv_rules.specs.declared.local.LocalRule.TheVariants.{WrongKind, ClockUse, NamedClock, Nonblocking, Latch, ReadFirst}
@@ -31,6 +32,10 @@ path_of vs k = elim (slice_get vs k) [ None ↦ [] | Some v ↦ v.at.path ]
 abbrev pub IsAnswer : List View → List At → Option Told → Type 0
 IsAnswer vs ats None = ats ≡ []
 IsAnswer vs ats (Some t) = (t.part < length vs) × Contains ats (record { path = path_of vs t.part; place = t.place })
+
+-- of all views of the parts
+abbrev pub IsToldBy : Signals → List Extent → (List View → List At) → Option Told → Type 0
+IsToldBy S xs rule o = (vs : List View) → AreExtents S vs xs → IsAnswer vs (rule vs) o
 
 -- ---- the rules that look at one part alone
 

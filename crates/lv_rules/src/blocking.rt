@@ -5,7 +5,7 @@ ghost use Rattle.lv_source.specs.Views.{View, is_edge, blocking_views};
 ghost use Rattle.lv_flat.specs.Cells.{AreDistinct, all_cells};
 ghost use Rattle.lv_flat.specs.Signals.{declared_all};
 ghost use Rattle.lv_extents.specs.Extents.{AreExtents, way_of};
-ghost use Rattle.lv_rules.specs.Rules.{unclocked, IsAnswer, IsFound, step_place};
+ghost use Rattle.lv_rules.specs.Rules.{unclocked, IsToldBy, IsFound, step_place};
 ghost use Rattle.lv_rules.specs.Reads.{is_sharing_span, is_sharing_aim, is_blocking_step, IsBlocked};
 
 use crate::readers::Reader;
@@ -134,7 +134,7 @@ pub fn first_blocking(
     extents: &[Extent],
 ) -> Result<Option<Told>, NoMemory>
     requires { AreDistinct (all_cells (declared_all signals.now)) }
-    ensures { IfOk result (λ r. (vs : List View) → AreExtents (declared_all signals.now) vs extents.now → IsAnswer vs (blocking_views (unclocked (declared_all signals.now)) vs) r) }
+    ensures { IfOk result (λ r. IsToldBy (declared_all signals.now) extents.now (blocking_views (unclocked (declared_all signals.now))) r) }
 {
     let late = late::late_signals(alloc, signals.len(), extents)?;
     let readers = readers::readers_of(alloc, signals.len(), extents)?;

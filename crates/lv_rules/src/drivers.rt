@@ -6,7 +6,7 @@ ghost use Rattle.lv_source.specs.Views.{View, is_edge, is_continuous, two_views}
 ghost use Rattle.lv_flat.specs.Cells.{AreDistinct, all_cells};
 ghost use Rattle.lv_flat.specs.Signals.{declared_all, signal_at};
 ghost use Rattle.lv_extents.specs.Extents.{AreExtents, way_of};
-ghost use Rattle.lv_rules.specs.Rules.{unclocked, IsAnswer};
+ghost use Rattle.lv_rules.specs.Rules.{unclocked, IsToldBy};
 ghost use Rattle.lv_rules.specs.Drives.{is_overdriven, is_mixed, IsShared};
 
 use crate::marks::Class;
@@ -90,7 +90,7 @@ pub fn first_two_drivers(
     extents: &[Extent],
 ) -> Result<Option<Told>, NoMemory>
     requires { AreDistinct (all_cells (declared_all signals.now)) }
-    ensures { IfOk result (λ r. (vs : List View) → AreExtents (declared_all signals.now) vs extents.now → IsAnswer vs (two_views (unclocked (declared_all signals.now)) vs) r) }
+    ensures { IfOk result (λ r. IsToldBy (declared_all signals.now) extents.now (two_views (unclocked (declared_all signals.now))) r) }
 {
     let clocked = marks::driven_by(alloc, signals.len(), extents, Class::Clocked)?;
     let unclocked = marks::driven_by(alloc, signals.len(), extents, Class::Unclocked)?;

@@ -5,7 +5,7 @@ ghost use Rattle.lv_source.specs.Views.{View, is_combinational};
 ghost use Rattle.lv_flat.specs.Cells.{AreDistinct, all_cells};
 ghost use Rattle.lv_flat.specs.Signals.{declared_all, signal_at, sort_of};
 ghost use Rattle.lv_extents.specs.Extents.{IsExtent, AreExtents, way_of, all_aims};
-ghost use Rattle.lv_rules.specs.Rules.{unclocked, is_misaimed, is_misdriven, IsFound, is_late_step, step_place, local_at, local_views, IsPlace, IsAnswer, IsClockPlace};
+ghost use Rattle.lv_rules.specs.Rules.{unclocked, is_misaimed, is_misdriven, IsFound, is_late_step, step_place, local_at, local_views, IsPlace, IsToldBy, IsClockPlace};
 
 use crate::told::Told;
 use crate::{aims, ways};
@@ -98,7 +98,7 @@ fn place_in(rule: LocalRule, signals: &[Signal], x: &Extent) -> Option<u64>
 /// A part of which the rule is told, and where; none exactly where it is told of none.
 pub fn first_local(rule: LocalRule, signals: &[Signal], extents: &[Extent]) -> Option<Told>
     requires { AreDistinct (all_cells (declared_all signals.now)) }
-    ensures { (vs : List View) → AreExtents (declared_all signals.now) vs extents.now → IsAnswer vs (local_views rule (unclocked (declared_all signals.now)) vs) result }
+    ensures { IsToldBy (declared_all signals.now) extents.now (local_views rule (unclocked (declared_all signals.now))) result }
 {
     for (part, x) in extents.iter().enumerate() {
         match place_in(rule, signals, x) {

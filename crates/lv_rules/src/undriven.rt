@@ -8,7 +8,7 @@ ghost use Rattle.lv_flat.specs.Signals.{declared_all, bounds_of, signal_at};
 ghost use Rattle.lv_spans.specs.Sets.{Cell, has};
 ghost use Rattle.lv_spans.specs.Domain.{spans_have};
 ghost use Rattle.lv_extents.specs.Extents.{AreExtents};
-ghost use Rattle.lv_rules.specs.Rules.{unclocked, IsAnswer};
+ghost use Rattle.lv_rules.specs.Rules.{unclocked, IsToldBy};
 ghost use Rattle.lv_rules.specs.Wires.{is_wired, IsLacking, IsCommon, AreCommon, LacksSpan, LacksSome, IsUndriven};
 
 use crate::marks::Class;
@@ -174,7 +174,7 @@ pub fn first_undriven(
     extents: &[Extent],
 ) -> Result<Option<Told>, NoMemory>
     requires { AreDistinct (all_cells (declared_all signals.now)) }
-    ensures { IfOk result (λ r. (vs : List View) → AreExtents (declared_all signals.now) vs extents.now → IsAnswer vs (undriven_views (unclocked (declared_all signals.now)) vs) r) }
+    ensures { IfOk result (λ r. IsToldBy (declared_all signals.now) extents.now (undriven_views (unclocked (declared_all signals.now))) r) }
 {
     let comb = marks::driven_by(alloc, signals.len(), extents, Class::Combinational)?;
     let driven = all_driven(alloc, extents)?;

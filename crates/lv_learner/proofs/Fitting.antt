@@ -1,7 +1,6 @@
 -- Lists whose numbers rise, as a certificate's text has them and as a task has them.
 use Rattle.std.proofs.Common.{◌≡◌, ℕ, zero, suc, ◌+◌, ◌<◌, ◌≤◌, List, [], ◌∷◌, length, get_or, subst, arith}
 use Rattle.std.specs.Prelude.{All}
-use Rattle.std.specs.List.Sorted.{IsStrictlyIncreasing}
 use Rattle.std.proofs.lemmas.List.Elements.{All-cons, All-nil}
 use Rattle.lv_cert.specs.declared.cert.Cert.{Cert}
 use Rattle.lv_cert.specs.Values.{Sets, values_of}

@@ -1,5 +1,5 @@
 -- What is told of an expression in no constant position is told of it in one.
-use Rattle.std.proofs.Common.{◌≡◌, ℕ, Bool, true, false, if◌then◌else◌, List, [], ◌∷◌, ◌++◌, ap, ◌∙◌, sym, subst, refl, flat_map, map, inl, inr, Option, None, Some}
+use Rattle.std.proofs.Common.{ℕ, Bool, true, false, if◌then◌else◌, List, [], ◌∷◌, ◌++◌, sym, flat_map, map, inl, inr, None, Some}
 use Rattle.std.specs.List.{Contains}
 use Rattle.std.proofs.lemmas.Grind.{flat_map-append}
 use Rattle.std.proofs.lemmas.List.Elements.{Contains-append_left, Contains-append_right, Contains-append_cases}
@@ -106,12 +106,16 @@ module _ (here : Here) where
       (flat_map (own_sites Joined (Some first)) ws) (same (fixed_sites n)) (h Joined first))
 
   up : (a b : Walk) → AllLoose a → StepLoose (Select-F.Up a b)
-  up a b h = record { at = λ constant first. both (index_sites constant None a) (fixed_sites b) (index_sites constant (Some first) a) (fixed_sites b)
-      (index constant a h first) (same (fixed_sites b)) }
+  up a b h = record {
+    at = λ constant first. both (index_sites constant None a) (fixed_sites b) (index_sites constant (Some first) a) (fixed_sites b)
+        (index constant a h first) (same (fixed_sites b));
+  }
 
   down : (a b : Walk) → AllLoose a → StepLoose (Select-F.Down a b)
-  down a b h = record { at = λ constant first. both (index_sites constant None a) (fixed_sites b) (index_sites constant (Some first) a) (fixed_sites b)
-      (index constant a h first) (same (fixed_sites b)) }
+  down a b h = record {
+    at = λ constant first. both (index_sites constant None a) (fixed_sites b) (index_sites constant (Some first) a) (fixed_sites b)
+        (index constant a h first) (same (fixed_sites b));
+  }
 
   part : (a b : Walk) → StepLoose (Select-F.Part a b)
   part a b = record { at = λ constant first. same (fixed_sites a ++ fixed_sites b) }

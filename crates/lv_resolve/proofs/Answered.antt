@@ -1,10 +1,9 @@
 -- The answer on an expression where it stands, from that on its tree.
-use Rattle.std.proofs.Common.{◌≡◌, ℕ, ◌≤◌, max, Bool, true, false, List, [], ◌∷◌, ◌++◌, ap, ◌∙◌, sym, subst, refl, flat_map, arith, Ok, Err, Result, None}
-use Rattle.std.specs.List.{Contains}
+use Rattle.std.proofs.Common.{◌≡◌, ℕ, max, Bool, false, List, [], ◌++◌, ap, ◌∙◌, sym, refl, flat_map, arith, Ok, Err, Result}
 use Rattle.lv_ast.specs.declared.expr.Expr.{Expr}
 use Rattle.lv_source.specs.Names.{Here}
-use Rattle.lv_source.specs.Sites.{Site, Spot, Value, Walk, walk, spots, expr_sites}
-use Rattle.lv_source.specs.NodeRules.{unknown_name, zero_divisor, out_of_range, clock_use}
+use Rattle.lv_source.specs.Sites.{Site, Spot, Walk, walk, spots, expr_sites}
+use Rattle.lv_source.specs.NodeRules.{unknown_name, zero_divisor, out_of_range}
 use Rattle.lv_source.specs.Faults.{site_faults}
 use Rattle.lv_source.specs.Legal.{UnknownName, NotConstant, ZeroDivisor, Range, ClockUse}
 use Rattle.lv_const.proofs.WalkReads.{walk-reads}
@@ -17,8 +16,8 @@ use Rattle.lv_resolve.specs.declared.form.Divisor.{Divisor}
 use Rattle.lv_resolve.specs.declared.form.Notes.{Notes}
 use Rattle.lv_resolve.specs.declared.form.Form.{Form}
 use Rattle.lv_resolve.specs.declared.resolved.Resolved.{Resolved}
-use Rattle.lv_resolve.specs.Forms.{Sites, flaws, unfixed_at, Told, Tells, AreDivisors, AreClosed, IsZeroed, HasForm, HasNoForm, wide, read_sites, has_operands}
-use Rattle.lv_resolve.specs.Resolved.{AreFaultless, IsToldOf, IsResolved, ResolveAnswer, HasReached, ReachedAnswer}
+use Rattle.lv_resolve.specs.Forms.{Sites, flaws, unfixed_at, Tells, AreDivisors, AreClosed, HasForm, HasNoForm, wide, read_sites, has_operands}
+use Rattle.lv_resolve.specs.Resolved.{AreFaultless, IsToldOf, ResolveAnswer, ReachedAnswer}
 use Rattle.lv_resolve.proofs.Covers.{first-empty, second-empty, in-same, wider}
 use Rattle.lv_resolve.proofs.Zeros.{each-empty, all-empty, zeroed-told}
 use Rattle.lv_resolve.proofs.FixedLaws.{spotted}

@@ -1,5 +1,5 @@
 -- What each arm of the functions over a tree has to show.
-use Rattle.std.proofs.Common.{◌≡◌, ℕ, ◌+◌, ◌*◌, ◌≤◌, ◌<◌, Bool, true, false, not, ◌&&◌, ◌||◌, if◌then◌else◌, List, [], ◌∷◌, ◌++◌, ap, ◌∙◌, sym, subst, refl, map, length, get_or, take, arith, Ok, Err, Result, None, Some, Option}
+use Rattle.std.proofs.Common.{◌≡◌, ℕ, Bool, true, false, not, ◌&&◌, ◌||◌, if◌then◌else◌, List, ◌++◌, ap, ◌∙◌, sym, subst, refl, map, arith, Err, Result, None, Option}
 use Rattle.std.specs.Prelude.{IfOk, IfErr}
 use Rattle.std.specs.List.{list_all}
 use Rattle.lv_bits.specs.declared.op.Op.{Op}
@@ -8,12 +8,11 @@ use Rattle.lv_ast.specs.declared.expr.Literal.{Literal}
 use Rattle.lv_ast.specs.declared.expr.Path.{Path}
 use Rattle.lv_ast.specs.declared.expr.Expr.{Expr}
 use Rattle.lv_ast.specs.declared.expr.Expr.TheVariants as tree
-use Rattle.lv_ast.specs.declared.expr.Expr.TheOpen.{Expr-F, Select-F}
+use Rattle.lv_ast.specs.declared.expr.Expr.TheOpen.{Expr-F}
 use Rattle.lv_ast.specs.declared.expr.Select.{Select}
-use Rattle.lv_ast.specs.declared.expr.Select.TheVariants as select
-use Rattle.lv_source.specs.Names.{Names, Here, Declared}
-use Rattle.lv_source.specs.Sites.{Value, Walk, WalkStep, walk, walk_select, walk_step, first_place, fixed_sites, first_of}
-use Rattle.lv_const.proofs.Walks.{walk-Lit, walk-Name, walk-Un, walk-Bin, walk-Div, walk-Rem, walk-Cond, walk-Cat, walk-Rep, walk-Cast, select-Bit, select-Part, select-Up, select-Down}
+use Rattle.lv_source.specs.Names.{Here}
+use Rattle.lv_source.specs.Sites.{Value, Walk, WalkStep, walk, walk_select, walk_step, first_place, fixed_sites}
+use Rattle.lv_const.proofs.Walks.{walk-Lit, walk-Name, walk-Un, walk-Bin, walk-Div, walk-Rem, walk-Cond, walk-Cat, walk-Rep, walk-Cast}
 use Rattle.lv_const.proofs.SamePlaces.{same-first}
 use Rattle.lv_scopes.specs.declared.number.Number.{Number}
 use Rattle.lv_flat.specs.Signals.{Signals}
@@ -23,7 +22,7 @@ use Rattle.lv_resolve.specs.declared.error.ResolveError.TheVariants as x
 use Rattle.lv_resolve.specs.declared.form.Form.{Form}
 use Rattle.lv_resolve.specs.declared.form.Pair.{Pair}
 use Rattle.lv_resolve.specs.declared.form.Parts.{Parts}
-use Rattle.lv_resolve.specs.Forms.{Sites, Told, HasForm, HasNoForm, FormAnswer, HasPair, PairAnswer, HasParts, PartsAnswer, IsFixed, FixedAnswer, NameAnswer, read_sites, operand_sites, operand_least, member_sites, settled_sites, wide, both_sites, both_width, both_signed, first_sites, first_least, pair_sites, pair_least, joined_all, has_operands, has_select_operands}
+use Rattle.lv_resolve.specs.Forms.{Told, HasForm, HasNoForm, FormAnswer, HasPair, PairAnswer, HasParts, IsFixed, NameAnswer, read_sites, operand_sites, operand_least, member_sites, settled_sites, wide, both_sites, both_width, both_signed, first_sites, first_least, pair_sites, pair_least, joined_all, has_operands, has_select_operands}
 use Rattle.lv_resolve.specs.Joins.{IsUnary, IsBinary, IsDivision, IsNoDivision, IsChoice, IsCast, IsPair, IsConcatenation, IsTooWide, IsCounted, IsUncounted, IsLiteral, IsNoLiteral}
 use Rattle.lv_resolve.specs.Picks.{copies_of}
 use Rattle.lv_resolve.proofs.Nodes as nodes

@@ -1,6 +1,6 @@
 -- Numbers as bounds, counts and widths.
-use Rattle.std.proofs.Common.{◌≡◌, ℕ, ◌+◌, ◌-◌, ◌≤◌, max, min, Bool, true, false, not, ◌&&◌, if◌then◌else◌, ap, ◌∙◌, sym, subst, refl, arith, inl, inr, Some, None, Option, []}
-use Rattle.std.specs.Prelude.{nat_le, nat_lt}
+use Rattle.std.proofs.Common.{◌≡◌, ℕ, ◌≤◌, Bool, true, false, ◌&&◌, ap, ◌∙◌, sym, subst, refl, arith, inl, inr, Some, None, Option, []}
+use Rattle.std.specs.Prelude.{nat_le}
 use Rattle.std.proofs.lemmas.Bool.Decides.{nat_tests}
 use Rattle.lv_source.specs.NodeRules.{is_in_order}
 use Rattle.lv_const.proofs.Numbers.{split}

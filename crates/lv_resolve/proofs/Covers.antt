@@ -1,5 +1,5 @@
 -- What is noted of lists of nodes, from what is noted of their parts.
-use Rattle.std.proofs.Common.{◌≡◌, ℕ, ◌≤◌, ◌<◌, Bool, true, false, List, [], ◌∷◌, ◌++◌, ap, ◌∙◌, sym, subst, refl, flat_map, arith, inl, inr, None}
+use Rattle.std.proofs.Common.{◌≡◌, ℕ, ◌≤◌, Bool, List, [], ◌∷◌, ◌++◌, ap, ◌∙◌, sym, subst, refl, flat_map, arith, inl, inr, None}
 use Rattle.std.specs.List.{Contains}
 use Rattle.std.proofs.lemmas.Grind.{flat_map-append}
 use Rattle.std.proofs.lemmas.List.Elements.{Contains-append_left, Contains-append_right, Contains-append_cases}
@@ -13,7 +13,7 @@ use Rattle.lv_const.proofs.Owns.{site_of}
 use Rattle.lv_resolve.specs.declared.error.ResolveError.{ResolveError}
 use Rattle.lv_resolve.specs.declared.error.ResolveError.TheVariants as x
 use Rattle.lv_resolve.specs.declared.form.Divisor.{Divisor}
-use Rattle.lv_resolve.specs.Forms.{Sites, flaws, unfixed_at, Tells, Told, zeros_at, IsDivisor, AreDivisors, Covered}
+use Rattle.lv_resolve.specs.Forms.{Sites, flaws, unfixed_at, Tells, Told, zeros_at, AreDivisors, Covered}
 
 -- ---- lists
 

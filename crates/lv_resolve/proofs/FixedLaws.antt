@@ -1,19 +1,19 @@
 -- A number in a constant position: what is answered of it, from the answer on the constants that are declared before.
-use Rattle.std.proofs.Common.{◌≡◌, ℕ, ◌+◌, ◌≤◌, ◌<◌, max, Bool, true, false, if◌then◌else◌, List, [], ◌∷◌, ◌++◌, ap, ◌∙◌, sym, subst, refl, flat_map, map, arith, inl, inr, ◌⊎◌, Ok, Err, None, Some, Option}
+use Rattle.std.proofs.Common.{◌≡◌, ℕ, max, Bool, true, false, List, [], ◌∷◌, ◌++◌, ap, ◌∙◌, sym, subst, refl, flat_map, map, arith, inl, inr, ◌⊎◌, Ok, Err, None, Some, Option}
 use Rattle.std.specs.List.{Contains, All}
-use Rattle.std.proofs.lemmas.List.Elements.{All-contains, Contains-append_left, Contains-append_right, Contains-append_cases}
+use Rattle.std.proofs.lemmas.List.Elements.{All-contains, Contains-append_right, Contains-append_cases}
 use Rattle.lv_ast.specs.declared.expr.Path.{Path}
 use Rattle.lv_ast.specs.declared.expr.Expr.{Expr}
 use Rattle.lv_ast.specs.declared.expr.Expr.TheOpen.{Expr-F}
-use Rattle.lv_source.specs.Names.{Names, Here, Declared, Sort, known, is_constant_sort, is_clock_sort, is_signal_sort, Input, Net, Variable, Clock, Constant, Index, Other}
+use Rattle.lv_source.specs.Names.{Here, Declared, Sort, known, is_constant_sort, Input, Net, Variable, Clock, Constant, Index, Other}
 use Rattle.lv_source.specs.Values.{nowhere, own_value}
-use Rattle.lv_source.specs.Meaning.{Reading, read_expr, own_width, own_signed, value_of}
+use Rattle.lv_source.specs.Meaning.{Reading, read_expr, own_width, value_of}
 use Rattle.lv_source.specs.Sites.{Site, Spot, Step, Value, Walk, walk, spots, expr_sites, fixed_sites, first_place}
-use Rattle.lv_source.specs.NodeRules.{unknown_name, not_constant, zero_divisor, out_of_range, clock_use, is_early, is_unreadable, is_name_fault, can_be_read}
+use Rattle.lv_source.specs.NodeRules.{unknown_name, zero_divisor, out_of_range, is_early, is_unreadable, can_be_read}
 use Rattle.lv_source.specs.Faults.{site_faults}
 use Rattle.lv_source.specs.Legal.{UnknownName, NotConstant, ClockUse}
 use Rattle.lv_source.specs.Legal as kind
-use Rattle.lv_source.specs.Constants.{early_constants, early_or_none}
+use Rattle.lv_source.specs.Constants.{early_or_none}
 use Rattle.lv_source.specs.Parts.{is_declared_sort}
 use Rattle.lv_const.specs.declared.consts.Entry.{Entry}
 use Rattle.lv_const.specs.declared.error.ConstError.{ConstError}
@@ -32,11 +32,11 @@ use Rattle.lv_scopes.specs.Numbers.{IsNumber}
 use Rattle.lv_flat.specs.Signals.{Signals}
 use Rattle.lv_resolve.specs.Places.{AreNames}
 use Rattle.lv_resolve.specs.Late.{late_name, late_by, first_late, or_else, paths_in}
-use Rattle.lv_resolve.specs.Forms.{flaws, unfixed_at, Told, IsFixed, FixedAnswer}
+use Rattle.lv_resolve.specs.Forms.{flaws, unfixed_at, Told, FixedAnswer}
 use Rattle.lv_resolve.specs.declared.error.ResolveError.{ResolveError}
 use Rattle.lv_resolve.specs.declared.error.ResolveError.TheVariants as x
-use Rattle.lv_resolve.proofs.Covers.{no-divisors, nowhere-in, in-same, first-empty, second-empty}
-use Rattle.lv_resolve.proofs.Zeros.{single, each-empty, all-empty, Made, made, four-empty}
+use Rattle.lv_resolve.proofs.Covers.{no-divisors, nowhere-in, in-same}
+use Rattle.lv_resolve.proofs.Zeros.{single, each-empty, all-empty, made}
 use Rattle.lv_resolve.proofs.Steady.{path_of, constant-reads, site-paths}
 
 -- ---- from spots to sites

@@ -1,5 +1,5 @@
 -- How many bits a select names.
-use Rattle.std.proofs.Common.{◌≡◌, ℕ, zero, suc, Bool, true, false, if◌then◌else◌, length, map, reverse, ap, ◌∙◌, refl}
+use Rattle.std.proofs.Common.{◌≡◌, ℕ, zero, suc, true, false, if◌then◌else◌, length, map, reverse, ap, ◌∙◌, refl}
 use Rattle.std.specs.Prelude.{ℤ, pos, ◌+ℤ◌}
 use Rattle.std.proofs.lemmas.List.{length-map, length-reverse}
 use Rattle.lv_source.specs.Names.{Bounds}

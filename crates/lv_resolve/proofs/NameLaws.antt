@@ -1,5 +1,5 @@
 -- Names with all their selects.
-use Rattle.std.proofs.Common.{◌≡◌, ℕ, suc, ◌+◌, ◌-◌, ◌≤◌, ◌<◌, max, min, Bool, true, false, not, ◌&&◌, ◌||◌, if◌then◌else◌, List, [], ◌∷◌, ◌++◌, ap, ◌∙◌, sym, subst, refl, flat_map, map, length, get_or, arith, inl, inr, ◌⊎◌, Ok, Err, Result, None, Some, Option}
+use Rattle.std.proofs.Common.{◌≡◌, ℕ, suc, Bool, true, false, not, ◌&&◌, ◌||◌, if◌then◌else◌, List, [], ◌∷◌, ◌++◌, ap, ◌∙◌, sym, subst, refl, flat_map, map, length, arith, inl, inr, Ok, Err, Result, None, Some, Option}
 use Rattle.std.specs.Prelude.{IfOk, IfErr, nat_le}
 use Rattle.std.specs.List.{list_all}
 use Rattle.std.proofs.lemmas.Bool.Decides.{nat_tests}
@@ -7,28 +7,26 @@ use Rattle.std.proofs.lemmas.List.Elements.{Contains-append_right}
 use Rattle.lv_const.proofs.Told.{both-empty}
 use Rattle.lv_ast.specs.declared.expr.Path.{Path}
 use Rattle.lv_ast.specs.declared.expr.Expr.TheOpen.{Expr-F, Select-F}
-use Rattle.lv_source.specs.Names.{Names, Here, Bounds, Declared, Sort, width_of, size, is_constant_sort, is_clock_sort}
+use Rattle.lv_source.specs.Names.{Here, Bounds, Declared, width_of, size, is_constant_sort, is_clock_sort}
 use Rattle.lv_source.specs.Names.{known as known_of}
 use Rattle.lv_source.specs.Values.{nowhere}
 use Rattle.lv_source.specs.Places.{bits_of, bit_selects, all_bits}
-use Rattle.lv_source.specs.Meaning.{Choice, meant, all_constant, is_nil, named}
-use Rattle.lv_source.specs.Sites.{Site, Step, Role, Value, Walk, WalkStep, walk_step, step_shown, step_choice, step_sites, below_sites, is_driven, first_place}
-use Rattle.lv_source.specs.NodeRules.{is_width, is_array_fault, is_select_fault, is_good_step, is_bit_step, is_written, can_be_read, is_name_fault, is_unreadable, unknown_name, out_of_range, clock_use, clock_in, zero_divisor}
+use Rattle.lv_source.specs.Meaning.{meant, is_nil, named}
+use Rattle.lv_source.specs.Sites.{Site, Step, Walk, WalkStep, walk_step, step_shown, step_sites, below_sites}
+use Rattle.lv_source.specs.NodeRules.{is_width, is_array_fault, is_select_fault, is_good_step, is_bit_step, can_be_read, is_unreadable, unknown_name, out_of_range, clock_use, clock_in, zero_divisor}
 use Rattle.lv_source.specs.Parts.{is_declared_sort}
 use Rattle.lv_source.proofs.Bridges.{two}
 use Rattle.lv_const.specs.declared.constant.Const.{Const}
 use Rattle.lv_const.specs.Constants.{constant_of}
 use Rattle.lv_const.specs.Answers.{read_role}
-use Rattle.lv_const.proofs.Numbers.{split}
 use Rattle.lv_const.proofs.Owns.{site_of}
 use Rattle.lv_const.proofs.Leaves.{length-all_bits, undriven, unwritten, or-true}
 use Rattle.lv_flat.specs.declared.expr.FlatExpr.{FlatExpr}
 use Rattle.lv_flat.specs.declared.expr.FlatExpr.TheVariants as e
 use Rattle.lv_flat.specs.declared.expr.FlatExpr.TheOpen.{FlatExpr-F}
-use Rattle.lv_flat.specs.declared.expr.FlatSelect.{FlatSelect}
 use Rattle.lv_flat.specs.declared.expr.FlatSelect.TheVariants as s
 use Rattle.lv_flat.specs.Signals.{Signals, signal_at}
-use Rattle.lv_flat.specs.Judged.{JudgedSelect, judge, judge_select, choices, step_of, is_good, meaning, reading, good_selects}
+use Rattle.lv_flat.specs.Judged.{JudgedSelect, judge_select, choices, step_of, is_good, meaning, reading, good_selects}
 use Rattle.lv_flat.proofs.Judgements.{judge_select-Bit, judge-Const, judge-Signal}
 use Rattle.lv_flat.proofs.ReadAlike as alike
 use Rattle.lv_flat.proofs.Selects.{Alike, AllAlike}
@@ -38,9 +36,8 @@ use Rattle.lv_resolve.specs.declared.form.Form.{Form}
 use Rattle.lv_resolve.specs.declared.picks.Head.{Head}
 use Rattle.lv_resolve.specs.declared.picks.Pick.{Pick}
 use Rattle.lv_resolve.specs.declared.picks.Picks.{Picks}
-use Rattle.lv_resolve.specs.Forms.{Sites, Told, Covered, flaws, zeros_at, HasOperand, HasForm, HasNoForm, FormAnswer, NameAnswer, read_sites, operand_sites, wide}
-use Rattle.lv_resolve.specs.Joins.{IsTree, IsNoted}
-use Rattle.lv_resolve.specs.Picks.{IsHead, HasPick, HasNoPick, PickAnswer, HasPicks, HasNoPicks, PicksAnswer, IsWhole, IsPicked, IsElement, IsElementBits, IsNamed, head_bounds, is_there, pick_sites, picks_sites, chosen_of, inside, array, select}
+use Rattle.lv_resolve.specs.Forms.{Sites, Told, Covered, flaws, HasOperand, HasForm, HasNoForm, FormAnswer, NameAnswer, read_sites, operand_sites, wide}
+use Rattle.lv_resolve.specs.Picks.{IsHead, HasPick, HasNoPick, HasPicks, HasNoPicks, PicksAnswer, IsWhole, IsPicked, IsElement, IsElementBits, IsNamed, head_bounds, is_there, pick_sites, picks_sites, chosen_of, inside, array, select}
 use Rattle.lv_resolve.proofs.Covers.{within-first, within-second, within-below, within-then, within-same, told-within, no-memory, told-range, told-name, covered-nothing, covered-same, covered-both}
 use Rattle.lv_resolve.proofs.Nodes.{and-left, and-right, and-both, good-by, has-operand, operand-width, memory-none}
 use Rattle.lv_resolve.proofs.PickLaws.{append-nil, and-one}

@@ -1,22 +1,17 @@
 -- The tree and the notes of each kind of node, from those of its operands.
-use Rattle.std.proofs.Common.{◌≡◌, ℕ, ◌+◌, ◌*◌, ◌≤◌, max, Bool, true, false, not, ◌&&◌, ◌||◌, if◌then◌else◌, List, [], ◌∷◌, ◌++◌, ap, ◌∙◌, sym, subst, refl, flat_map, map, arith, inl, inr, Ok, Err, Result, None, Some, Option}
+use Rattle.std.proofs.Common.{◌≡◌, ℕ, ◌≤◌, max, Bool, true, false, not, ◌&&◌, if◌then◌else◌, ◌++◌, ap, ◌∙◌, sym, subst, refl, arith, inl, inr, Ok, Err, Result, None}
 use Rattle.std.specs.Prelude.{IfOk, IfErr}
-use Rattle.std.specs.List.{Contains, list_all}
-use Rattle.std.proofs.lemmas.List.Elements.{Contains-append_left, Contains-append_right, Contains-append_cases}
-use Rattle.std.proofs.lemmas.Grind.{flat_map-append}
 use Rattle.lv_bits.specs.declared.op.Op.{Op}
 use Rattle.lv_bits.specs.Values.{keeps_width, is_apart, is_unary}
-use Rattle.lv_ast.specs.declared.expr.Literal.{Literal}
-use Rattle.lv_ast.specs.declared.expr.Expr.{Expr}
 use Rattle.lv_ast.specs.declared.expr.Expr.TheOpen.{Expr-F}
 use Rattle.lv_source.specs.Names.{Here}
-use Rattle.lv_source.specs.Values.{Meaning, unary, binary, size_of, nowhere}
+use Rattle.lv_source.specs.Values.{Meaning, unary, binary}
 use Rattle.lv_source.specs.Meaning.{Reading}
-use Rattle.lv_source.specs.Sites.{Site, Role, Value, Walk, WalkStep, walk, walk_step, below_sites, own_sites, first_of, first_place}
-use Rattle.lv_source.specs.NodeRules.{is_width, is_literal_fault, zero_division, unfixed_division, unknown_name, out_of_range, clock_use, zero_divisor}
+use Rattle.lv_source.specs.Sites.{Role, Value, Walk, WalkStep, walk_step, below_sites, own_sites}
+use Rattle.lv_source.specs.NodeRules.{is_width}
 use Rattle.lv_source.proofs.Bridges.{two}
 use Rattle.lv_const.specs.Answers.{read_role}
-use Rattle.lv_const.proofs.Told.{width_in, both-empty}
+use Rattle.lv_const.proofs.Told.{width_in}
 use Rattle.lv_const.proofs.Numbers.{split}
 use Rattle.lv_const.proofs.Owns.{site_of}
 use Rattle.lv_flat.specs.declared.expr.FlatExpr.{FlatExpr}
@@ -24,17 +19,16 @@ use Rattle.lv_flat.specs.declared.expr.FlatExpr.TheVariants as e
 use Rattle.lv_flat.specs.declared.expr.FlatExpr.TheOpen.{FlatExpr-F}
 use Rattle.lv_flat.specs.Signals.{Signals}
 use Rattle.lv_flat.specs.Judged.{Judged, JudgedSelect, judge, judge_step, reading, meaning, is_good, layer_good}
-use Rattle.lv_flat.proofs.Judgements.{judge-Lit, judge-Un, judge-Bin, judge-Div, judge-Rem, judge-Cond, judge-Cast}
+use Rattle.lv_flat.proofs.Judgements.{judge-Un, judge-Bin, judge-Cast}
 use Rattle.lv_flat.proofs.ReadAlike as alike
 use Rattle.lv_resolve.specs.declared.error.ResolveError.{ResolveError}
 use Rattle.lv_resolve.specs.declared.error.ResolveError.TheVariants as x
 use Rattle.lv_resolve.specs.declared.operand.Operand.{Operand}
-use Rattle.lv_resolve.specs.declared.form.Divisor.{Divisor}
 use Rattle.lv_resolve.specs.declared.form.Form.{Form}
 use Rattle.lv_resolve.specs.declared.form.Pair.{Pair}
-use Rattle.lv_resolve.specs.Forms.{Sites, flaws, Told, Covered, AreDivisors, IsDivisor, zeros_at, HasOperand, HasForm, HasNoForm, FormAnswer, HasPair, PairAnswer, read_sites, operand_sites, operand_least, wide, both_sites, both_width, both_signed, first_sites, first_least, pair_sites, pair_least}
-use Rattle.lv_resolve.specs.Joins.{IsTree, IsNoted, IsUnary, IsBinary, IsPair, IsDivision, IsNoDivision, IsChoice, IsCast, IsLiteral, IsNoLiteral, binary_width, binary_signed, divided_by, is_sound_literal}
-use Rattle.lv_resolve.proofs.Covers.{Within, within-same, within-first, within-second, within-below, within-then, told-within, no-memory, told-range, told-unfixed, IsQuiet, covered-nothing, covered-same, covered-both, covered-at, covered-node, no-divisors, nowhere-in, in-same, first-empty, second-empty, wider, both-divisors}
+use Rattle.lv_resolve.specs.Forms.{Sites, HasOperand, HasForm, HasNoForm, FormAnswer, HasPair, PairAnswer, read_sites, operand_sites, operand_least, wide, first_least, pair_sites, pair_least}
+use Rattle.lv_resolve.specs.Joins.{IsTree, IsUnary, IsBinary, IsPair, IsCast, binary_width, binary_signed}
+use Rattle.lv_resolve.proofs.Covers.{Within, within-same, within-first, within-second, within-below, within-then, told-within, no-memory, covered-same, covered-both, covered-node}
 
 -- ---- tests
 

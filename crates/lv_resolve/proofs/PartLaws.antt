@@ -1,5 +1,5 @@
 -- Concatenations, replications, divisions, choices and literals, from what is known of their operands.
-use Rattle.std.proofs.Common.{◌≡◌, ℕ, ◌+◌, ◌*◌, ◌≤◌, ◌<◌, max, Bool, true, false, not, ◌&&◌, ◌||◌, ◌==◌, if◌then◌else◌, List, [], ◌∷◌, ◌++◌, ap, ◌∙◌, sym, subst, refl, flat_map, map, length, take, drop, get_or, arith, inl, inr, ◌⊎◌, Ok, Err, Result, None, Some, Option}
+use Rattle.std.proofs.Common.{◌≡◌, ℕ, ◌+◌, ◌*◌, ◌≤◌, ◌<◌, max, Bool, true, false, not, ◌&&◌, ◌||◌, ◌==◌, if◌then◌else◌, List, [], ◌∷◌, ◌++◌, ap, ◌∙◌, sym, subst, refl, flat_map, map, length, take, drop, get_or, arith, inl, inr, Ok, Err, Result, None, Some}
 use Rattle.std.specs.Prelude.{IfOk, IfErr, nat_lt, pos}
 use Rattle.lv_bits.specs.Values.{signed_of}
 use Rattle.std.specs.List.{Contains, list_all}
@@ -10,13 +10,13 @@ use Rattle.lv_ast.specs.declared.expr.Literal.{Literal}
 use Rattle.lv_ast.specs.declared.expr.Expr.{Expr}
 use Rattle.lv_ast.specs.declared.expr.Expr.TheOpen.{Expr-F}
 use Rattle.lv_source.specs.Names.{Names, Here}
-use Rattle.lv_source.specs.Values.{size_of, nowhere, widths, own_value}
-use Rattle.lv_source.specs.Meaning.{Reading, meanings}
-use Rattle.lv_source.specs.Sites.{Site, Role, Value, Joined, Walk, WalkStep, walk, walk_step, below_sites, own_sites, fixed_sites, first_of, first_place, joined_role}
-use Rattle.lv_source.specs.NodeRules.{is_width, is_literal_fault, is_positive, number, zero_division, unfixed_division, unknown_name, out_of_range, clock_use, zero_divisor}
+use Rattle.lv_source.specs.Values.{size_of, nowhere, own_value}
+use Rattle.lv_source.specs.Meaning.{Reading}
+use Rattle.lv_source.specs.Sites.{Site, Value, Joined, Walk, WalkStep, walk, walk_step, below_sites, own_sites, fixed_sites, first_of, first_place}
+use Rattle.lv_source.specs.NodeRules.{is_width, is_literal_fault, is_positive, number, zero_division, clock_use, zero_divisor}
 use Rattle.lv_source.proofs.Bridges.{two}
 use Rattle.lv_const.specs.Answers.{read_role, total_width}
-use Rattle.lv_const.proofs.Told.{width_in, both-empty}
+use Rattle.lv_const.proofs.Told.{both-empty}
 use Rattle.lv_const.proofs.Numbers.{split}
 use Rattle.lv_const.proofs.Owns.{site_of}
 use Rattle.lv_const.proofs.Leaves.{joins, count-positive, shown-widths, wrong-or, not-false}
@@ -26,20 +26,19 @@ use Rattle.lv_flat.specs.declared.expr.FlatExpr.{FlatExpr}
 use Rattle.lv_flat.specs.declared.expr.FlatExpr.TheVariants as e
 use Rattle.lv_flat.specs.declared.expr.FlatExpr.TheOpen.{FlatExpr-F}
 use Rattle.lv_flat.specs.Signals.{Signals}
-use Rattle.lv_flat.specs.Judged.{Judged, JudgedSelect, judge, judge_step, reading, meaning, is_good, layer_good}
+use Rattle.lv_flat.specs.Judged.{judge, reading, is_good}
 use Rattle.lv_flat.proofs.Judgements.{judge-Lit, judge-Div, judge-Rem, judge-Cond, judge-Cat, judge-Rep}
 use Rattle.lv_flat.proofs.ReadAlike as alike
 use Rattle.lv_resolve.specs.declared.error.ResolveError.{ResolveError}
 use Rattle.lv_resolve.specs.declared.error.ResolveError.TheVariants as x
-use Rattle.lv_resolve.specs.declared.operand.Operand.{Operand}
 use Rattle.lv_resolve.specs.declared.form.Divisor.{Divisor}
 use Rattle.lv_resolve.specs.declared.form.Form.{Form}
 use Rattle.lv_resolve.specs.declared.form.Pair.{Pair}
 use Rattle.lv_resolve.specs.declared.form.Parts.{Parts}
-use Rattle.lv_resolve.specs.Forms.{Sites, flaws, Told, Covered, AreDivisors, IsDivisor, zeros_at, HasOperand, HasForm, HasNoForm, FormAnswer, HasPair, HasParts, PartsAnswer, IsFixed, FixedAnswer, read_sites, operand_sites, wide, both_sites, both_width, both_signed, joined_all, member_sites}
+use Rattle.lv_resolve.specs.Forms.{flaws, Told, Covered, AreDivisors, IsDivisor, zeros_at, HasOperand, HasForm, HasNoForm, HasPair, HasParts, PartsAnswer, IsFixed, read_sites, operand_sites, wide, both_sites, both_width, joined_all, member_sites}
 use Rattle.lv_resolve.specs.Picks.{copies_of, is_low}
-use Rattle.lv_resolve.specs.Joins.{IsTree, IsNoted, IsDivision, IsNoDivision, IsChoice, IsMore, IsConcatenation, IsTooWide, IsRepetition, IsCounted, IsUncounted, IsLiteral, IsNoLiteral, divided_by, is_sound_literal}
-use Rattle.lv_resolve.proofs.Covers.{Within, within-same, within-first, within-second, within-below, within-then, told-within, no-memory, told-range, told-unfixed, IsQuiet, covered-nothing, covered-same, covered-both, covered-at, covered-node, no-divisors, nowhere-in, in-same, first-empty, second-empty, wider, both-divisors}
+use Rattle.lv_resolve.specs.Joins.{IsDivision, IsNoDivision, IsChoice, IsMore, IsConcatenation, IsTooWide, IsRepetition, IsCounted, IsUncounted, IsLiteral, IsNoLiteral, is_sound_literal}
+use Rattle.lv_resolve.proofs.Covers.{Within, within-same, within-first, within-second, within-below, within-then, told-range, told-unfixed, IsQuiet, covered-nothing, covered-same, covered-both, covered-node, nowhere-in, in-same, first-empty, second-empty, both-divisors}
 use Rattle.lv_resolve.proofs.Nodes.{and-both, and-left, and-right, and-true, good-by, has-operand, operand-width, memory-none, none-within, node-none, Answered}
 use Rattle.lv_resolve.proofs.Zeros.{single, sound-of}
 use Rattle.lv_resolve.proofs.Steady.{constant-steady}

@@ -1,41 +1,34 @@
 -- Selects: what is answered of each form, and of all that a name has.
-use Rattle.std.proofs.Common.{◌≡◌, ℕ, ◌+◌, ◌-◌, ◌^◌, ◌≤◌, ◌<◌, max, min, Bool, true, false, not, ◌&&◌, ◌||◌, if◌then◌else◌, List, [], ◌∷◌, ◌++◌, ap, ◌∙◌, sym, subst, refl, flat_map, map, length, get_or, arith, inl, inr, ◌⊎◌, Ok, Err, Result, None, Some, Option}
+use Rattle.std.proofs.Common.{◌≡◌, ℕ, ◌-◌, ◌^◌, ◌≤◌, Bool, true, false, not, ◌&&◌, if◌then◌else◌, List, [], ◌∷◌, ◌++◌, ap, ◌∙◌, sym, subst, refl, arith, inl, inr, Ok, Err, Result, None, Some, Option}
 use Rattle.std.specs.Prelude.{IfOk, IfErr, nat_le, nat_lt, pos}
-use Rattle.std.specs.List.{list_all}
 use Rattle.std.proofs.lemmas.Bool.Decides.{nat_tests}
 use Rattle.lv_bits.specs.Values.{signed_of}
-use Rattle.lv_ast.specs.declared.expr.Expr.{Expr}
-use Rattle.lv_ast.specs.declared.expr.Select.{Select}
-use Rattle.lv_ast.specs.declared.expr.Expr.TheOpen.{Expr-F, Select-F}
-use Rattle.lv_source.specs.Names.{Names, Here, Bounds, Declared, width_of, is_constant_sort}
+use Rattle.lv_ast.specs.declared.expr.Expr.TheOpen.{Select-F}
+use Rattle.lv_source.specs.Names.{Here, Bounds}
 use Rattle.lv_source.specs.Values.{nowhere, own_value}
-use Rattle.lv_source.specs.Places.{count_of, bits_of, bit_selects, bits_from, lowest, falls}
-use Rattle.lv_source.specs.Meaning.{Reading, Choice, meant, parts_of, all_constant, is_nil}
-use Rattle.lv_source.specs.Sites.{Site, Value, Walk, WalkStep, step_shown, step_choice, step_sites, fixed_sites, own_sites}
-use Rattle.lv_source.specs.NodeRules.{is_width, is_bound, is_width_number, is_in_order, is_good_step, is_array_fault, is_select_fault, most_steps, number, is_bit_step}
+use Rattle.lv_source.specs.Meaning.{Choice}
+use Rattle.lv_source.specs.Sites.{Walk, WalkStep, step_shown, step_sites, fixed_sites}
+use Rattle.lv_source.specs.NodeRules.{is_width, is_bound, is_width_number, is_in_order, is_good_step, number}
 use Rattle.lv_source.proofs.Bridges.{two}
 use Rattle.lv_const.specs.Signs.{is_negative}
 use Rattle.lv_const.proofs.Numbers.{split}
-use Rattle.lv_const.proofs.Leaves.{length-all_bits, is-width_some, is-width_most}
 use Rattle.lv_scopes.specs.declared.number.Number.{Number}
 use Rattle.lv_flat.specs.declared.expr.FlatSelect.{FlatSelect}
 use Rattle.lv_flat.specs.declared.expr.FlatSelect.TheVariants as s
 use Rattle.lv_flat.specs.Signals.{Signals}
-use Rattle.lv_flat.specs.Judged.{JudgedSelect, judge_select, choices, step_of, is_good}
-use Rattle.lv_flat.specs.Judged as judged
+use Rattle.lv_flat.specs.Judged.{JudgedSelect, judge_select, step_of}
 use Rattle.lv_flat.proofs.Judgements.{judge_select-Bit, judge_select-Part, judge_select-Up, judge_select-Down}
 use Rattle.lv_flat.proofs.ReadAlike as alike
-use Rattle.lv_flat.proofs.Selects.{Alike, AllAlike}
+use Rattle.lv_flat.proofs.Selects.{Alike}
 use Rattle.lv_resolve.specs.declared.error.ResolveError.{ResolveError}
 use Rattle.lv_resolve.specs.declared.error.ResolveError.TheVariants as x
 use Rattle.lv_resolve.specs.declared.form.Form.{Form}
 use Rattle.lv_resolve.specs.declared.picks.Head.{Head}
 use Rattle.lv_resolve.specs.declared.picks.Pick.{Pick}
-use Rattle.lv_resolve.specs.declared.picks.Picks.{Picks}
-use Rattle.lv_resolve.specs.Forms.{Sites, Told, Covered, HasOperand, HasForm, HasNoForm, IsFixed, operand_sites, wide}
-use Rattle.lv_resolve.specs.Picks.{IsHead, IsTaken, IsBit, IsPart, IsNoPart, IsRun, IsNoRun, HasPick, HasNoPick, PickAnswer, HasPicks, HasNoPicks, PicksAnswer, IsWhole, IsPicked, IsElement, IsElementBits, bound_of, is_low, is_part, is_part_by, is_run, part_width, run_of, head_bounds, is_there, pick_sites, picks_sites, chosen_of}
+use Rattle.lv_resolve.specs.Forms.{Told, Covered, HasForm, IsFixed, operand_sites}
+use Rattle.lv_resolve.specs.Picks.{IsBit, IsPart, IsNoPart, IsRun, IsNoRun, PickAnswer, bound_of, is_low, is_part, is_part_by, is_run, part_width, head_bounds, pick_sites}
 use Rattle.lv_resolve.proofs.Bounds.{bound-value, and-both}
-use Rattle.lv_resolve.proofs.Covers.{within-first, within-second, told-within, no-memory, covered-nothing, covered-same, covered-both}
+use Rattle.lv_resolve.proofs.Covers.{no-memory, covered-same, covered-both}
 use Rattle.lv_resolve.proofs.Nodes.{and-left, and-right}
 
 -- ---- numbers

@@ -1,17 +1,16 @@
 -- What each arm on selects and names has to show.
-use Rattle.std.proofs.Common.{inl, inr, ◌≡◌, ℕ, zero, suc, ◌+◌, ◌≤◌, ◌<◌, Bool, true, false, not, ◌&&◌, List, [], ◌∷◌, ap, ◌∙◌, sym, subst, refl, map, length, get_or, arith, Ok, Err, Result, None, Some, Option}
+use Rattle.std.proofs.Common.{inl, ◌≡◌, ℕ, zero, suc, Bool, true, false, ◌&&◌, List, [], ◌∷◌, ap, ◌∙◌, sym, subst, refl, map, length, get_or, arith, Ok, Err, Result, None, Some, Option}
 use Rattle.std.specs.Prelude.{IfOk, IfErr, slice_get, if◌then◌else◌}
 use Rattle.std.specs.List.{list_all}
 use Rattle.lv_ast.specs.declared.expr.Path.{Path}
 use Rattle.lv_ast.specs.declared.expr.Expr.{Expr}
-use Rattle.lv_ast.specs.declared.expr.Expr.TheOpen.{Expr-F, Select-F}
+use Rattle.lv_ast.specs.declared.expr.Expr.TheOpen.{Select-F}
 use Rattle.lv_ast.specs.declared.expr.Select.{Select}
 use Rattle.lv_ast.specs.declared.expr.Select.TheVariants as select
-use Rattle.lv_source.specs.Names.{Names, Here, Declared, Bounds, Sort, is_clock_sort}
-use Rattle.lv_source.specs.NodeRules.{is_bit_step, can_be_read, is_unreadable}
+use Rattle.lv_source.specs.Names.{Here, Declared, Bounds, is_clock_sort}
+use Rattle.lv_source.specs.NodeRules.{is_bit_step}
 use Rattle.lv_source.specs.Parts.{is_declared_sort}
-use Rattle.lv_source.specs.Sites.{Walk, WalkStep, walk, walk_select, walk_step, fixed_sites, step_sites, step_shown}
-use Rattle.lv_source.specs.Constants.{early_or_none}
+use Rattle.lv_source.specs.Sites.{Walk, WalkStep, walk, walk_select, fixed_sites, step_shown}
 use Rattle.lv_const.specs.declared.consts.Entry.{Entry}
 use Rattle.lv_const.specs.declared.constant.Const.{Const}
 use Rattle.lv_const.specs.Constants.{names_of, declared_of, constant_of}
@@ -19,7 +18,6 @@ use Rattle.lv_const.proofs.Declared.{entry-known}
 use Rattle.lv_const.proofs.Walks.{select-Bit, select-Part, select-Up, select-Down}
 use Rattle.lv_scopes.specs.declared.number.Number.{Number}
 use Rattle.lv_flat.specs.declared.signal.Signal.{Signal}
-use Rattle.lv_flat.specs.declared.sort.Sort.{Sort as FlatSort}
 use Rattle.lv_flat.specs.declared.expr.FlatExpr.TheVariants as e
 use Rattle.lv_flat.specs.Signals.{Signals, declared, declared_all, signal_at, sort_of}
 use Rattle.lv_resolve.specs.declared.error.ResolveError.{ResolveError}
@@ -28,9 +26,9 @@ use Rattle.lv_resolve.specs.declared.form.Form.{Form}
 use Rattle.lv_resolve.specs.declared.picks.Head.{Head}
 use Rattle.lv_resolve.specs.declared.picks.Pick.{Pick}
 use Rattle.lv_resolve.specs.declared.picks.Picks.{Picks}
-use Rattle.lv_resolve.specs.Places.{AreNames, with_all}
-use Rattle.lv_resolve.specs.Forms.{Told, HasForm, HasNoForm, FormAnswer, NameAnswer, IsFixed, operand_sites, has_operands, has_select_operands}
-use Rattle.lv_resolve.specs.Picks.{IsHead, IsBit, IsPart, IsNoPart, IsRun, IsNoRun, HasPick, HasNoPick, PickAnswer, HasPicks, HasNoPicks, PicksAnswer, IsWhole, IsPicked, IsElement, IsElementBits, IsNamed, head_bounds, is_there}
+use Rattle.lv_resolve.specs.Places.{AreNames}
+use Rattle.lv_resolve.specs.Forms.{Told, HasForm, HasNoForm, NameAnswer, IsFixed, operand_sites, has_operands, has_select_operands}
+use Rattle.lv_resolve.specs.Picks.{IsHead, IsBit, IsPart, IsNoPart, IsRun, IsNoRun, HasPick, HasNoPick, PickAnswer, HasPicks, PicksAnswer, IsWhole, IsPicked, IsElement, IsElementBits, IsNamed, head_bounds, is_there}
 use Rattle.lv_resolve.proofs.Covers.{told-within, within-first, within-second}
 use Rattle.lv_resolve.proofs.FixedLaws.{readable, unread-none, none-constant}
 use Rattle.lv_resolve.proofs.PickLaws as pick

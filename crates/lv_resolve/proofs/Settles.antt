@@ -1,5 +1,5 @@
 -- An operand whose divisors are looked at, at the width and the sign that reach them.
-use Rattle.std.proofs.Common.{◌≡◌, ℕ, ◌≤◌, max, Bool, true, false, not, ◌&&◌, ◌||◌, if◌then◌else◌, List, [], ap, ◌∙◌, sym, subst, refl, arith, inl, inr, Ok, Err}
+use Rattle.std.proofs.Common.{◌≡◌, ℕ, ◌≤◌, max, Bool, true, false, ◌&&◌, ◌||◌, List, [], ap, ◌∙◌, sym, subst, refl, arith, inl, inr, Ok, Err}
 use Rattle.lv_bits.specs.declared.op.Op.{Op}
 use Rattle.lv_bits.specs.Values.{keeps_width, is_apart}
 use Rattle.lv_source.specs.Names.{Here}

@@ -13,7 +13,7 @@ use Rattle.lv_ast.specs.declared.expr.Select.TheVariants as s
 use Rattle.lv_ast.specs.Trees.{fold_expr, fold_exprs, fold_one, fold_select, fold_selects}
 use Rattle.lv_source.specs.Names.{Names, Declared, Sort, Input, Net, Variable, Clock, Constant, Index, Other, known, is_constant_sort, is_signal_sort}
 use Rattle.lv_source.specs.Places.{Bit}
-use Rattle.lv_source.specs.Meaning.{Reading, Choice, parts_of, bits_named, index_reads, all_constant}
+use Rattle.lv_source.specs.Meaning.{Choice, parts_of, bits_named, index_reads, all_constant}
 use Rattle.lv_source.specs.Sites.{Site, Role, Value, Joined, Walk, WalkStep, walk_step, walk_select_step, walk, own_sites, fixed_sites, index_sites, step_sites, below_sites, is_driven, joined_role, first_place, step_shown, step_choice}
 use Rattle.lv_source.specs.NodeRules.{is_early}
 use Rattle.lv_source.proofs.Bridges.{two}

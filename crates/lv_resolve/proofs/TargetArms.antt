@@ -1,5 +1,5 @@
 -- What each arm of the functions over a target has to show.
-use Rattle.std.proofs.Common.{◌≡◌, ◌⊎◌, inl, inr, ℕ, zero, suc, ◌+◌, ◌≤◌, ◌<◌, min, Bool, true, false, not, ◌&&◌, if◌then◌else◌, List, [], ◌∷◌, ◌++◌, ap, ◌∙◌, sym, subst, refl, flat_map, map, length, take, drop, get_or, arith, Ok, Err, Result, None, Some, Option, add-one, drop-cons}
+use Rattle.std.proofs.Common.{◌≡◌, ◌⊎◌, inl, inr, ℕ, zero, suc, ◌+◌, ◌≤◌, ◌<◌, Bool, true, false, not, if◌then◌else◌, List, [], ◌∷◌, ◌++◌, ap, ◌∙◌, sym, subst, refl, flat_map, map, length, take, drop, get_or, arith, Ok, Err, Result, None, Some, Option, add-one, drop-cons}
 use Rattle.std.specs.Prelude.{IfOk, IfErr, slice_get}
 use Rattle.std.specs.List.{list_all}
 use Rattle.std.proofs.lemmas.Bool.Decides.{nat_tests}
@@ -10,12 +10,12 @@ use Rattle.lv_ast.specs.declared.stmt.Target.{Target}
 use Rattle.lv_ast.specs.declared.stmt.Target.TheVariants as tree
 use Rattle.lv_source.specs.Names.{Names, Here, Declared, is_clock_sort}
 use Rattle.lv_source.specs.Values.{nowhere}
-use Rattle.lv_source.specs.Effect.{pieces, places, bits_in}
-use Rattle.lv_source.specs.Sites.{Site, Role, Driven, Walk, WalkStep, walk, walk_select, step_sites, fixed_sites, target_sites, spots, first_of}
+use Rattle.lv_source.specs.Effect.{pieces, bits_in}
+use Rattle.lv_source.specs.Sites.{Site, Role, Driven, Walk, WalkStep, walk, walk_select, step_sites, fixed_sites, target_sites, first_of}
 use Rattle.lv_source.specs.NodeRules.{is_width}
 use Rattle.lv_source.specs.Faults.{site_faults}
 use Rattle.lv_source.specs.Legal.{ClockUse}
-use Rattle.lv_source.specs.ScopeRules.{target_fault, place_if}
+use Rattle.lv_source.specs.ScopeRules.{place_if}
 use Rattle.lv_source.specs.Standing.{target_width}
 use Rattle.lv_const.specs.declared.consts.Entry.{Entry}
 use Rattle.lv_const.proofs.Numbers.{split}
@@ -23,7 +23,7 @@ use Rattle.lv_const.specs.Places.{head_of, either, place_or}
 use Rattle.lv_flat.specs.declared.signal.Signal.{Signal}
 use Rattle.lv_flat.specs.Signals.{Signals, declared, declared_all, signal_at, sort_of}
 use Rattle.lv_flat.specs.Executing as flat
-use Rattle.lv_flat.specs.Good.{good_target, are_targets}
+use Rattle.lv_flat.specs.Good.{are_targets}
 use Rattle.lv_flat.proofs.Doings.{Goal, goal_of}
 use Rattle.lv_flat.proofs.GoodParts.{good-target}
 use Rattle.lv_resolve.specs.declared.error.ResolveError.{ResolveError}
@@ -33,8 +33,8 @@ use Rattle.lv_resolve.specs.declared.goal.ResolvedTarget.{ResolvedTarget}
 use Rattle.lv_resolve.specs.declared.picks.Head.{Head}
 use Rattle.lv_resolve.specs.declared.picks.Picks.{Picks}
 use Rattle.lv_resolve.specs.Places.{AreNames}
-use Rattle.lv_resolve.specs.Forms.{Told, Covered, IsFixed, FixedAnswer, has_select_operands}
-use Rattle.lv_resolve.specs.Picks.{IsHead, HasPicks, PicksAnswer}
+use Rattle.lv_resolve.specs.Forms.{Told, Covered, IsFixed, has_select_operands}
+use Rattle.lv_resolve.specs.Picks.{IsHead, PicksAnswer}
 use Rattle.lv_ast.specs.declared.expr.Expr.{Expr}
 use Rattle.lv_ast.specs.declared.expr.Expr.TheOpen.{Select-F}
 use Rattle.lv_ast.specs.declared.expr.Select.TheVariants as pick
@@ -43,7 +43,7 @@ use Rattle.lv_const.proofs.Lists.{take-whole}
 use Rattle.lv_scopes.specs.declared.number.Number.{Number}
 use Rattle.std.proofs.lemmas.List.{take_more, map-append}
 use Rattle.lv_resolve.proofs.Covers.{Within, within-first, within-second, within-then, told-within, covered-nothing, covered-same, covered-both}
-use Rattle.lv_resolve.specs.Targets.{FixedPair, FixedStep, IndicesAnswer, HasGoal, capped, bits_of_pieces, has_target_operands, IsTarget, IsNoTarget, TargetAnswer}
+use Rattle.lv_resolve.specs.Targets.{FixedPair, FixedStep, IndicesAnswer, HasGoal, capped, has_target_operands, TargetAnswer}
 use Rattle.lv_resolve.specs.TargetJoins.{IsAimed, target_role, site_place}
 use Rattle.lv_resolve.proofs.Answered.{told-of, faultless}
 use Rattle.lv_resolve.proofs.FixedLaws.{spotted}

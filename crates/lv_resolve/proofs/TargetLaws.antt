@@ -1,14 +1,14 @@
 -- Targets: what is answered of a name and of a concatenation.
-use Rattle.std.proofs.Common.{◌≡◌, ℕ, zero, suc, ◌+◌, ◌≤◌, ◌<◌, min, Bool, true, false, not, ◌&&◌, ◌||◌, if◌then◌else◌, List, [], ◌∷◌, ◌++◌, ap, ◌∙◌, sym, subst, refl, flat_map, map, length, take, drop, get_or, arith, inl, inr, Ok, Err, Result, None, Some, Option, append_assoc}
+use Rattle.std.proofs.Common.{◌≡◌, ℕ, zero, suc, ◌+◌, ◌≤◌, ◌<◌, min, Bool, true, false, not, ◌&&◌, ◌||◌, if◌then◌else◌, List, [], ◌∷◌, ◌++◌, ap, ◌∙◌, sym, subst, refl, flat_map, map, length, take, drop, get_or, arith, Ok, Err, Result, None, Some, Option}
 use Rattle.std.specs.Prelude.{IfOk, IfErr, ℤ, pos, negsuc, decimal}
 use Rattle.lv_ast.specs.Names.{at_index}
 use Rattle.lv_ast.specs.declared.stmt.Target.TheOpen.{Target-F}
-use Rattle.std.specs.List.{Contains, list_all}
-use Rattle.std.proofs.lemmas.List.{take_more, map-append, length-map}
+use Rattle.std.specs.List.{list_all}
+use Rattle.std.proofs.lemmas.List.{take_more, length-map}
 use Rattle.std.proofs.lemmas.List.Sums.{sum_by-cons}
 use Rattle.std.proofs.lemmas.Grind.{flat_map-append}
 use Rattle.lv_ast.specs.declared.expr.Path.{Path}
-use Rattle.lv_ast.specs.declared.expr.Expr.{Expr, Row_of-Expr, end_of-Expr, more_of-Expr}
+use Rattle.lv_ast.specs.declared.expr.Expr.{Row_of-Expr, end_of-Expr, more_of-Expr}
 use Rattle.lv_ast.specs.declared.expr.Expr.TheOpen.{Expr-F, Select-F}
 use Rattle.lv_ast.specs.declared.expr.Select.{Select}
 use Rattle.lv_ast.specs.declared.expr.Select.TheVariants as s
@@ -21,17 +21,15 @@ use Rattle.lv_source.specs.Values.{Chosen, nowhere}
 use Rattle.lv_source.specs.Places.{Place, place_of, place_by, element, nowhere_place, bits_of, bit_selects, all_bits, lowest, within}
 use Rattle.lv_source.specs.Meaning.{Reading, Choice, meant, read_step, choice, read_expr, read_select, named}
 use Rattle.lv_source.specs.Effect.{Piece, piece_step, pieces, places, bits_in, piece_place, aimed}
-use Rattle.lv_source.specs.Sites.{Site, Step, Role, is_driven, Walk, WalkStep, walk, walk_select, walk_step, walk_select_step, step_shown, step_choice, step_sites, below_sites, target_sites, target_site_step, first_of}
-use Rattle.lv_source.specs.NodeRules.{is_width, is_written, can_be_read, is_unreadable, is_array_fault, is_select_fault, is_name_fault, is_clock_name, unknown_name, out_of_range, clock_use, zero_divisor}
+use Rattle.lv_source.specs.Sites.{Site, Step, Role, is_driven, Walk, WalkStep, walk, walk_select, walk_step, walk_select_step, step_shown, step_choice, step_sites, target_sites, target_site_step}
+use Rattle.lv_source.specs.NodeRules.{is_width, is_written, can_be_read, is_array_fault, is_select_fault, is_clock_name, unknown_name, out_of_range, clock_use, zero_divisor}
 use Rattle.lv_source.specs.Parts.{is_declared_sort}
-use Rattle.lv_source.proofs.Bridges.{two, map-map}
+use Rattle.lv_source.proofs.Bridges.{two}
 use Rattle.lv_const.proofs.Told.{none-joined, both-empty, width_in}
 use Rattle.lv_const.proofs.Owns.{site_of}
 use Rattle.lv_const.proofs.Leaves.{or-true}
 use Rattle.lv_const.proofs.WalkReads.{walk-reads}
 use Rattle.lv_const.proofs.Lists.{take-whole}
-use Rattle.lv_flat.specs.declared.expr.FlatSelect.{FlatSelect}
-use Rattle.lv_flat.specs.declared.stmt.FlatTarget.{FlatTarget}
 use Rattle.lv_flat.specs.declared.stmt.FlatTarget.TheVariants as t
 use Rattle.lv_flat.specs.Signals.{Signals, signal_at}
 use Rattle.lv_flat.specs.Judged.{judge_select, choices}

@@ -1,5 +1,5 @@
 -- Whether divisors are 0, from the answers on their widths and values.
-use Rattle.std.proofs.Common.{◌≡◌, ℕ, zero, suc, ◌+◌, ◌≤◌, ◌<◌, max, Bool, true, false, ◌==◌, if◌then◌else◌, List, [], ◌∷◌, ◌++◌, ap, ◌∙◌, sym, subst, refl, flat_map, map, length, take, get_or, arith, inl, inr, Ok, Err, None, Option}
+use Rattle.std.proofs.Common.{◌≡◌, ℕ, zero, suc, ◌+◌, ◌≤◌, ◌<◌, max, Bool, true, false, ◌==◌, List, [], ◌∷◌, ◌++◌, ap, ◌∙◌, sym, subst, refl, flat_map, map, length, take, get_or, arith, inl, inr, Ok, Err, None}
 use Rattle.std.specs.List.{Contains}
 use Rattle.std.proofs.lemmas.Grind.{flat_map-append}
 use Rattle.std.proofs.lemmas.List.{take_more}
@@ -13,7 +13,7 @@ use Rattle.lv_source.specs.Names.{Names, Here}
 use Rattle.lv_source.specs.Values.{nowhere}
 use Rattle.lv_source.specs.Meaning.{own_width}
 use Rattle.lv_source.specs.Sites.{Site, Value, walk}
-use Rattle.lv_source.specs.NodeRules.{zero_divisor, unknown_name, not_constant, out_of_range}
+use Rattle.lv_source.specs.NodeRules.{zero_divisor, unknown_name, out_of_range}
 use Rattle.lv_const.specs.declared.error.ConstError.{ConstError}
 use Rattle.lv_const.specs.declared.error.ConstError.TheVariants as y
 use Rattle.lv_const.specs.Faults.{no_value, unfixed, form_faults, told_faults, all_faults}
@@ -25,7 +25,7 @@ use Rattle.lv_const.proofs.WalkReads.{walk-reads}
 use Rattle.lv_const.proofs.Numbers.{split}
 use Rattle.lv_const.proofs.Lists.{take-whole}
 use Rattle.lv_resolve.specs.Places.{with_all}
-use Rattle.lv_resolve.specs.Forms.{Sites, flaws, unfixed_at, Told, zeros_at, IsDivisor, AreDivisors, IsZeroed, AreClosed, Covered}
+use Rattle.lv_resolve.specs.Forms.{Sites, flaws, unfixed_at, Told, zeros_at, IsDivisor, IsZeroed, AreClosed, Covered}
 use Rattle.lv_resolve.specs.Joins.{zero_in}
 use Rattle.lv_resolve.specs.declared.error.ResolveError.{ResolveError}
 use Rattle.lv_resolve.specs.declared.error.ResolveError.TheVariants as x

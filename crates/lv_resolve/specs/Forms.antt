@@ -1,5 +1,5 @@
 -- What is answered of an expression below a place: of its tree, and of its nodes where they stand.
-use Rattle.std.specs.Prelude.{◌≡◌, ℕ, ◌≤◌, ◌<◌, max, Bool, true, not, ◌&&◌, ◌||◌, if◌then◌else◌, ◌==◌, List, [], ◌∷◌, ◌++◌, Option, None, Some, Result, IfOk, IfErr, Contains, flat_map, map, ⊤}
+use Rattle.std.specs.Prelude.{◌≡◌, ℕ, ◌≤◌, max, Bool, true, not, ◌&&◌, ◌||◌, if◌then◌else◌, ◌==◌, List, [], ◌∷◌, ◌++◌, Option, None, Result, IfOk, IfErr, Contains, flat_map, map, ⊤}
 use Rattle.std.specs.List.{list_all}
 use Rattle.lv_bits.specs.declared.op.Op.{Op}
 use Rattle.lv_bits.specs.Values.{keeps_width, is_apart, is_unary}
@@ -10,12 +10,11 @@ use Rattle.lv_ast.specs.declared.expr.Select.{Select}
 use Rattle.lv_ast.specs.Trees.{fold_expr, fold_select}
 use Rattle.lv_source.specs.Names.{Names, Here}
 use Rattle.lv_source.specs.Values.{nowhere, own_value}
-use Rattle.lv_source.specs.Sites.{Site, Role, Value, Joined, Walk, WalkStep, walk, walk_step, own_sites, fixed_sites}
+use Rattle.lv_source.specs.Sites.{Site, Value, Joined, Walk, WalkStep, walk, walk_step, own_sites, fixed_sites}
 use Rattle.lv_source.specs.NodeRules.{unknown_name, not_constant, zero_divisor, out_of_range, clock_use}
 use Rattle.lv_const.specs.declared.consts.Entry.{Entry}
 use Rattle.lv_const.specs.Answers.{Sound, read_role, total_width}
 use Rattle.lv_scopes.specs.declared.number.Number.{Number}
-use Rattle.lv_flat.specs.declared.expr.FlatExpr.{FlatExpr}
 use Rattle.lv_flat.specs.Signals.{Signals}
 use Rattle.lv_flat.specs.Judged.{reading, is_good}
 use Rattle.lv_resolve.specs.Places.{AreNames}

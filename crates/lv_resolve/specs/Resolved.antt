@@ -1,5 +1,5 @@
 -- What is answered of an expression where it stands.
-use Rattle.std.specs.Prelude.{◌≡◌, ℕ, ◌≤◌, max, Bool, true, false, List, [], Option, None, Result, IfOk, IfErr, Contains, flat_map, ⊤}
+use Rattle.std.specs.Prelude.{◌≡◌, ℕ, Bool, true, false, List, [], Result, IfOk, IfErr, Contains, flat_map, ⊤}
 use Rattle.lv_ast.specs.declared.expr.Expr.{Expr}
 use Rattle.lv_source.specs.Names.{Here}
 use Rattle.lv_source.specs.Meaning.{read_expr}
@@ -12,7 +12,7 @@ use Rattle.lv_flat.specs.Judged.{reading, is_good}
 use Rattle.lv_resolve.specs.declared.error.ResolveError.{ResolveError}
 use Rattle.lv_resolve.specs.declared.error.ResolveError.TheVariants as x
 use Rattle.lv_resolve.specs.declared.resolved.Resolved.{Resolved}
-use Rattle.lv_resolve.specs.Forms.{Sites, flaws, Told, has_operands}
+use Rattle.lv_resolve.specs.Forms.{flaws, Told, has_operands}
 
 -- none of these nodes has one of the four faults
 pub record AreFaultless (xs : List Spot) : Type 0 where

@@ -1,5 +1,5 @@
 -- What is answered of a target, of its names and of the nodes of its selects where they stand.
-use Rattle.std.specs.Prelude.{◌≡◌, ◌⊎◌, ℕ, min, Bool, true, None, ◌&&◌, List, [], ◌∷◌, ◌++◌, Result, IfOk, IfErr, flat_map}
+use Rattle.std.specs.Prelude.{◌≡◌, ◌⊎◌, ℕ, min, Bool, true, None, List, [], ◌∷◌, ◌++◌, Result, IfOk, IfErr, flat_map}
 use Rattle.std.specs.List.{list_all}
 use Rattle.lv_ast.specs.declared.stmt.Target.{Target}
 use Rattle.lv_ast.specs.declared.stmt.Target.TheOpen.{Target-F}

@@ -279,9 +279,9 @@ fn fits(width: u32) -> bool
     1 <= width && width <= 128
 }
 
-/// A target of a block, or (`driven`) of a continuous assignment, whose indices are constant (IEEE 1364-2005, sections 6.1 and 9.2). Ok is a flat target that tells what the target tells, and exactly where no node of its
-/// selects has a fault UnknownName, NotConstant, ZeroDivisor or Range and its bits together are 1 to 128; an error is such a fault at its
-/// place. `NoMemory` may come at any time.
+/// A target of a block, or (`driven`) of a continuous assignment, whose indices are constant (IEEE 1364-2005, sections 6.1 and 9.2). Ok is a
+/// flat target that tells what the target tells, and exactly where no node of its selects has a fault UnknownName, NotConstant, ZeroDivisor
+/// or Range and its bits together are 1 to 128; an error is such a fault at its place. `NoMemory` may come at any time.
 pub fn resolve_target<B: Bindings>(
     alloc: Global,
     place: &Place<B>,

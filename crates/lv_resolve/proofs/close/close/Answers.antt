@@ -1,4 +1,4 @@
-use Rattle.std.proofs.Common.{◌≡◌, sym, Err}
+use Rattle.std.proofs.Common.{sym}
 use Rattle.lv_resolve.proofs.Zeros.{zeros-wrong}
 use Rattle.lv_resolve.proofs.close.close.Goals as goal
 

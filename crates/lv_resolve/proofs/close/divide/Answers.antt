@@ -1,4 +1,4 @@
-use Rattle.std.proofs.Common.{◌≡◌, ap, sym, ◌∙◌, arith, max}
+use Rattle.std.proofs.Common.{ap, sym, ◌∙◌, arith}
 use Rattle.lv_source.specs.Meaning.{own_width}
 use Rattle.lv_const.specs.Constants.{names_of, entries_here}
 use Rattle.lv_const.proofs.Declared.{entries-declared}

@@ -1,9 +1,8 @@
 -- The functions over a tree, arm by arm.
-use Rattle.std.proofs.Common.{◌≡◌, ◌∙◌, ap, sym, refl, not, arith, ◌+◌, ◌*◌, ◌≤◌, true, Ok, map}
-use Rattle.std.specs.List.{list_all}
+use Rattle.std.proofs.Common.{ap, sym, refl, not, arith, true, Ok}
 use Rattle.lv_source.specs.Sites.{walk}
-use Rattle.lv_flat.specs.Signals.{declared_all, signal_at}
-use Rattle.lv_resolve.specs.Forms.{has_operands, read_sites, wide}
+use Rattle.lv_flat.specs.Signals.{declared_all}
+use Rattle.lv_resolve.specs.Forms.{has_operands, read_sites}
 use Rattle.lv_resolve.proofs.Arms as arm
 use Rattle.lv_resolve.proofs.PartLaws as parts
 use Rattle.lv_resolve.proofs.SelectArms as picks

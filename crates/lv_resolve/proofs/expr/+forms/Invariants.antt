@@ -1,4 +1,4 @@
-use Rattle.std.proofs.Common.{◌≡◌, ◌*◌, ◌+◌, ◌≤◌, map, take, max}
+use Rattle.std.proofs.Common.{◌*◌, ◌+◌, ◌≤◌, map, take, max}
 use Rattle.std.specs.List.{list_all}
 use Rattle.lv_source.specs.Sites.{walk}
 use Rattle.lv_flat.specs.Signals.{declared_all}

@@ -1,4 +1,3 @@
-use Rattle.std.proofs.Common.{◌≡◌}
 use Rattle.lv_flat.specs.Signals.{declared_all}
 use Rattle.lv_resolve.proofs.FixedLaws.{fixed-right, fixed-range, fixed-zero, fixed-late, fixed-never}
 use Rattle.lv_resolve.proofs.fixed.fixed.Goals as goal

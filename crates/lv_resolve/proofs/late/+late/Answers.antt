@@ -1,4 +1,4 @@
-use Rattle.std.proofs.Common.{◌≡◌, sym}
+use Rattle.std.proofs.Common.{sym}
 use Rattle.lv_resolve.specs.Late.{late_name, paths_in, paths_within}
 use Rattle.lv_resolve.proofs.LateNames.{late-found, late-next}
 use Rattle.lv_resolve.proofs.late.+late.Goals as goal

@@ -1,4 +1,4 @@
-use Rattle.std.proofs.Common.{◌≡◌, sym, ap, ◌∙◌, arith, refl, max, min, ◌+◌, ◌-◌}
+use Rattle.std.proofs.Common.{sym, ◌∙◌, arith, refl}
 use Rattle.lv_resolve.proofs.Bounds.{part-right}
 use Rattle.lv_resolve.proofs.naming.part_pick.Goals as goal
 

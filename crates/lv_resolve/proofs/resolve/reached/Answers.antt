@@ -1,4 +1,4 @@
-use Rattle.std.proofs.Common.{◌≡◌, sym, ◌∙◌, ap, refl, arith, max}
+use Rattle.std.proofs.Common.{ap}
 use Rattle.lv_resolve.proofs.Answered.{reached-wrong, reached-right, reaching}
 use Rattle.lv_resolve.proofs.resolve.reached.Goals as goal
 

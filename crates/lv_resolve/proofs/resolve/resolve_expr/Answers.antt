@@ -1,4 +1,4 @@
-use Rattle.std.proofs.Common.{◌≡◌, false}
+use Rattle.std.proofs.Common.{false}
 use Rattle.lv_source.specs.Sites.{walk}
 use Rattle.lv_flat.specs.Signals.{declared_all}
 use Rattle.lv_resolve.specs.Forms.{read_sites, has_operands}

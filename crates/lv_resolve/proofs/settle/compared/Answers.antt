@@ -1,4 +1,4 @@
-use Rattle.std.proofs.Common.{◌≡◌, sym, ◌∙◌, ap, refl, arith, Bool, false, ◌||◌}
+use Rattle.std.proofs.Common.{sym, ◌∙◌, ap, refl}
 use Rattle.lv_resolve.proofs.Settles.{compared-kept, compared-wrong, compared-right, waiting-both, neither-first, neither-second}
 use Rattle.lv_resolve.proofs.settle.compared.Goals as goal
 

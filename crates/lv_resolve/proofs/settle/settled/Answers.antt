@@ -1,4 +1,4 @@
-use Rattle.std.proofs.Common.{◌≡◌, refl, ap}
+use Rattle.std.proofs.Common.{refl, ap}
 use Rattle.lv_resolve.proofs.Settles.{settled-wrong, settled-right, waiting}
 use Rattle.lv_resolve.proofs.settle.settled.Goals as goal
 

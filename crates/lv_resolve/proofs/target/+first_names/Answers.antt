@@ -1,4 +1,4 @@
-use Rattle.std.proofs.Common.{◌≡◌, sym, arith, refl, ◌≤◌}
+use Rattle.std.proofs.Common.{sym, arith}
 use Rattle.lv_resolve.proofs.TargetArms.{first-Name, first-Cat, first-found, first-next, first-all}
 use Rattle.lv_resolve.proofs.target.+first_names.Goals as goal
 

@@ -1,4 +1,4 @@
-use Rattle.std.proofs.Common.{◌≡◌, sym, arith, ◌≤◌}
+use Rattle.std.proofs.Common.{sym, arith}
 use Rattle.lv_flat.specs.Signals.{declared_all}
 use Rattle.lv_resolve.proofs.TargetLaws as law
 use Rattle.lv_resolve.proofs.target.+targets.Goals as goal

@@ -1,4 +1,3 @@
-use Rattle.std.proofs.Common.{◌≡◌}
 use Rattle.lv_resolve.proofs.TargetArms.{first-is}
 use Rattle.lv_resolve.proofs.target.first_place.Goals as goal
 

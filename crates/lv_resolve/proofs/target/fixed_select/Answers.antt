@@ -1,4 +1,3 @@
-use Rattle.std.proofs.Common.{◌≡◌, sym, arith, ◌≤◌}
 use Rattle.lv_resolve.proofs.TargetArms.{bit-fixed, bit-unfixed, part-fixed, up-fixed, down-fixed}
 use Rattle.lv_resolve.proofs.target.fixed_select.Goals as goal
 

@@ -1,4 +1,3 @@
-use Rattle.std.proofs.Common.{◌≡◌, sym, arith, ◌≤◌}
 use Rattle.lv_resolve.proofs.TargetArms.{both-fixed, first-unfixed, second-unfixed}
 use Rattle.lv_resolve.proofs.target.fixed_two.Goals as goal
 

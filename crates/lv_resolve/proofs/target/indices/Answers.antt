@@ -1,4 +1,4 @@
-use Rattle.std.proofs.Common.{◌≡◌, sym, arith, ◌≤◌}
+use Rattle.std.proofs.Common.{sym, arith}
 use Rattle.lv_resolve.proofs.TargetArms.{none-fixed, indices-free, more-fixed, one-unfixed, all-fixed}
 use Rattle.lv_resolve.proofs.target.indices.Goals as goal
 

@@ -1,4 +1,4 @@
-use Rattle.std.proofs.Common.{◌≡◌, ap, sym, ◌∙◌, refl}
+use Rattle.std.proofs.Common.{ap, sym, ◌∙◌, refl}
 use Rattle.lv_source.specs.Sites.{Driven}
 use Rattle.lv_flat.specs.Signals.{declared_all}
 use Rattle.lv_resolve.proofs.TargetArms.{whole-none, whole-wide, whole-right}

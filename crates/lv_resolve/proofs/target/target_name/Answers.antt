@@ -1,4 +1,3 @@
-use Rattle.std.proofs.Common.{◌≡◌}
 use Rattle.lv_resolve.proofs.TargetArms.{target-absent, target-no_number, target-index, target-none, target-right}
 use Rattle.lv_resolve.proofs.target.target_name.Goals as goal
 

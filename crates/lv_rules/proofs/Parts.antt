@@ -86,7 +86,7 @@ late_step_place S v x None h f =
     none_at (λ s. is_combinational (way_of x.way) && is_late_step s) x.steps k m.item f m.there)))
 late_step_place S v x (Some n) h f =
     let r : IsSome (λ s. is_combinational (way_of x.way) && is_late_step s && (step_place s == n)) x.steps = some_of (λ s. is_combinational (way_of x.way)
-        && is_late_step s && (step_place s == n)) x.steps f in
+    && is_late_step s && (step_place s == n)) x.steps f in
     let p : IsPair (IsStep S) v.events r.at r.item = each_get (IsStep S) v.events x.steps r.at r.item h.steps r.there in
     let a : (is_combinational (way_of x.way) && is_late_step r.item) ≡ true = and-left (is_combinational (way_of x.way) && is_late_step r.item) (step_place r.item == n) r.holds in
     let b : step_place r.item ≡ n = eqb-true (step_place r.item) n (and-right (is_combinational (way_of x.way) && is_late_step r.item) (step_place r.item == n) r.holds) in

@@ -14,20 +14,20 @@ pub returns-then-is_told_alone : goal.returns-then-is_told_alone
 returns-then-is_told_alone c =
     let l : c.loop-part.part < length c.args.extents.now = omega arith in
     twice-alone (declared_all c.args.signals.now) c.args.clocked.now c.args.unclocked.now c.args.extents.now c.loop-part.part c.index-extents-part.result l c.index-extents-part.is (sym
-        c.is_told_alone.ensures ∙ c.if-is_told_alone.true)
+    c.is_told_alone.ensures ∙ c.if-is_told_alone.true)
 
 pub returns-then-meets : goal.returns-then-meets
 returns-then-meets c =
     let l : c.loop-part.part < length c.args.extents.now = omega arith in
     twice-shared (declared_all c.args.signals.now) c.args.clocked.now c.args.unclocked.now c.args.extents.now c.loop-part.driven c.loop-part.part c.index-extents-part.result l
-        c.index-extents-part.is c.loop-part.invariant
+    c.index-extents-part.is c.loop-part.invariant
     (subst (λ spans. (S : Signals) → IsWithin S c.loop-part.driven → All (IsSpan S) spans → MeetsSome S c.loop-part.driven spans) c.as_slice.ensures (c.if-meets.ensures.meet refl))
 
 pub loop-part-preserved : goal.loop-part-preserved
 loop-part-preserved c =
     let l : c.loop-part.part < length c.args.extents.now = omega arith in
     shared_more (declared_all c.args.signals.now) c.args.clocked.now c.args.unclocked.now c.args.extents.now c.loop-part.driven c.in_ok-driven.driven c.loop-part.part
-        c.index-extents-part.result l c.index-extents-part.is (sym c.is_told_alone.ensures ∙ c.if-is_told_alone.false)
+    c.index-extents-part.result l c.index-extents-part.is (sym c.is_told_alone.ensures ∙ c.if-is_told_alone.false)
     (subst (λ spans. (q : Cell) (i : ℕ) → (spans_have spans q i && has c.loop-part.driven q i) ≡ false) c.as_slice.ensures (c.if-meets.ensures.apart refl))
     (subst (λ spans. (q : Cell) (i : ℕ) → has c.in_ok-driven.driven q i ≡ (has c.loop-part.driven q i || spans_have spans q i)) c.as_slice-in-loop-part.ensures c.in_ok-driven.ensures.added)
     (subst (λ spans. (S : Signals) → IsWithin S c.loop-part.driven → All (IsSpan S) spans → IsWithin S c.in_ok-driven.driven) c.as_slice-in-loop-part.ensures c.in_ok-driven.ensures.within)

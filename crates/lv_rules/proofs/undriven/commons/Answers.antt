@@ -16,5 +16,5 @@ loop-k-preserved c =
 pub returns : goal.returns
 returns c =
     let l : length (declared_all c.args.signals.now) ≤ c.loop-k.k = let z : length (declared_all c.args.signals.now) ≡ length c.args.signals.now =
-        length-map c.args.signals.now declared in omega arith in
+    length-map c.args.signals.now declared in omega arith in
     are-common (declared_all c.args.signals.now) c.args.comb.now c.args.driven.now c.loop-k.masks.items c.loop-k.k l c.loop-k.invariant

@@ -12,5 +12,5 @@ returns-in-Some c =
 pub returns-in-None : goal.returns-in-None
 returns-in-None c =
     lacks-common (declared_all c.args.signals.now) c.args.comb.now c.args.driven.now c.args.masks.now c.args.s c.lacks-in-None.result c.in-None.is (sym c.is_wired.ensures ∙
-        c.if-not-is_wired.false) c.requires
+    c.if-not-is_wired.false) c.requires
     (subst (λ m. IsLacking c.args.s.mask m c.lacks-in-None.result) c.mask_at.ensures c.lacks-in-None.ensures)

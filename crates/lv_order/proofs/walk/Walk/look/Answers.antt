@@ -12,7 +12,7 @@ pub index-requires : goal.index-requires
 index-requires c =
     let n : c.len.result ≡ length c.args.self.now.path.items = omega arith in
     let t : IsTop c.args.self.now.states.items c.args.self.now.path.items c.index-v.result.now = top-read (graph c.args.edges.now)
-        c.args.self.now c.len.result c.index-v.result.now c.requires.walk n c.requires.some c.index-v.ensures in
+    c.args.self.now c.len.result c.index-v.result.now c.requires.walk n c.requires.some c.index-v.ensures in
     let l : c.index-v.result.now < length c.args.self.now.states.items = t.within in
     omega arith
 
@@ -20,18 +20,18 @@ pub offset_bounds-edges-v : goal.offset_bounds-edges-v
 offset_bounds-edges-v c =
     let n : c.len.result ≡ length c.args.self.now.path.items = omega arith in
     let t : IsTop c.args.self.now.states.items c.args.self.now.path.items c.index-v.result.now = top-read (graph c.args.edges.now)
-        c.args.self.now c.len.result c.index-v.result.now c.requires.walk n c.requires.some c.index-v.ensures in
+    c.args.self.now c.len.result c.index-v.result.now c.requires.walk n c.requires.some c.index-v.ensures in
     let l : c.index-v.result.now < length c.args.self.now.states.items = t.within in
     let s : state_at c.args.self.now.states.items c.index-v.result.now ≡ c.index.result.now = state-read c.args.self.now.states.items c.index-v.result.now c.index.result.now l c.index.ensures in
     let b : c.index-v.result.now < length c.args.edges.now = let z : length c.args.self.now.states.items ≡ length (graph c.args.edges.now)
-        = c.requires.walk.size in omega (arith, length-map c.args.edges.now (λ r. r.items)) in
+    = c.requires.walk.size in omega (arith, length-map c.args.edges.now (λ r. r.items)) in
     search (rules, b)
 
 pub bounds-edges-v : goal.bounds-edges-v
 bounds-edges-v c =
     let n : c.len.result ≡ length c.args.self.now.path.items = omega arith in
     let t : IsTop c.args.self.now.states.items c.args.self.now.path.items c.index-v.result.now = top-read (graph c.args.edges.now)
-        c.args.self.now c.len.result c.index-v.result.now c.requires.walk n c.requires.some c.index-v.ensures in
+    c.args.self.now c.len.result c.index-v.result.now c.requires.walk n c.requires.some c.index-v.ensures in
     let l : c.index-v.result.now < length c.args.self.now.states.items = t.within in
     let z : length c.args.self.now.states.items ≡ length (graph c.args.edges.now) = c.requires.walk.size in omega (arith, length-map c.args.edges.now (λ r. r.items))
 
@@ -39,7 +39,7 @@ pub close-requires : goal.close-requires
 close-requires c =
     let n : c.len.result ≡ length c.args.self.now.path.items = omega arith in
     let t : IsTop c.args.self.now.states.items c.args.self.now.path.items c.index-v.result.now = top-read (graph c.args.edges.now)
-        c.args.self.now c.len.result c.index-v.result.now c.requires.walk n c.requires.some c.index-v.ensures in
+    c.args.self.now c.len.result c.index-v.result.now c.requires.walk n c.requires.some c.index-v.ensures in
     let l : c.index-v.result.now < length c.args.self.now.states.items = t.within in
     l
 
@@ -47,11 +47,11 @@ pub returns-then-at-len : goal.returns-then-at-len
 returns-then-at-len c =
     let n : c.len.result ≡ length c.args.self.now.path.items = omega arith in
     let t : IsTop c.args.self.now.states.items c.args.self.now.path.items c.index-v.result.now = top-read (graph c.args.edges.now)
-        c.args.self.now c.len.result c.index-v.result.now c.requires.walk n c.requires.some c.index-v.ensures in
+    c.args.self.now c.len.result c.index-v.result.now c.requires.walk n c.requires.some c.index-v.ensures in
     let l : c.index-v.result.now < length c.args.self.now.states.items = t.within in
     let s : state_at c.args.self.now.states.items c.index-v.result.now ≡ c.index.result.now = state-read c.args.self.now.states.items c.index-v.result.now c.index.result.now l c.index.ensures in
     let b : c.index-v.result.now < length c.args.edges.now = let z : length c.args.self.now.states.items ≡ length (graph c.args.edges.now)
-        = c.requires.walk.size in omega (arith, length-map c.args.edges.now (λ r. r.items)) in
+    = c.requires.walk.size in omega (arith, length-map c.args.edges.now (λ r. r.items)) in
     let r : edges_of (graph c.args.edges.now) c.index-v.result.now ≡ c.index-edges-v.result.items = edges-row c.args.edges.now c.index-v.result.now c.index-edges-v.result b c.index-edges-v.is in
     let m : length (edges_of (graph c.args.edges.now) c.index-v.result.now) ≤ looked (state_at c.args.self.now.states.items c.index-v.result.now) =
     subst (λ z. length z ≤ looked (state_at c.args.self.now.states.items c.index-v.result.now)) (sym r)
@@ -63,39 +63,39 @@ pub index-requires-2 : goal.index-requires-2
 index-requires-2 c =
     let n : c.len.result ≡ length c.args.self.now.path.items = omega arith in
     let t : IsTop c.args.self.now.states.items c.args.self.now.path.items c.index-v.result.now = top-read (graph c.args.edges.now)
-        c.args.self.now c.len.result c.index-v.result.now c.requires.walk n c.requires.some c.index-v.ensures in
+    c.args.self.now c.len.result c.index-v.result.now c.requires.walk n c.requires.some c.index-v.ensures in
     let l : c.index-v.result.now < length c.args.self.now.states.items = t.within in
     let b : c.index-v.result.now < length c.args.edges.now = let z : length c.args.self.now.states.items ≡ length (graph c.args.edges.now)
-        = c.requires.walk.size in omega (arith, length-map c.args.edges.now (λ r. r.items)) in
+    = c.requires.walk.size in omega (arith, length-map c.args.edges.now (λ r. r.items)) in
     let r : edges_of (graph c.args.edges.now) c.index-v.result.now ≡ c.index-edges-v.result.items = edges-row c.args.edges.now c.index-v.result.now c.index-edges-v.result b c.index-edges-v.is in
     let a : c.looked-at.result < length c.index-edges-v.result.items = omega arith in
     let g : goes (graph c.args.edges.now) c.index-v.result.now c.index-w.result.now ≡ true = goes-read (graph c.args.edges.now)
-        c.index-v.result.now c.looked-at.result c.index-w.result.now c.index-edges-v.result.items r a c.index-w.ensures in
+    c.index-v.result.now c.looked-at.result c.index-w.result.now c.index-edges-v.result.items r a c.index-w.ensures in
     let k : c.index-w.result.now < length c.args.self.now.states.items = let z : length c.args.self.now.states.items ≡ length (graph c.args.edges.now)
-        = c.requires.walk.size in let q : c.index-w.result.now < length (graph c.args.edges.now) = c.requires.graph c.index-v.result.now c.index-w.result.now g in omega arith in
+    = c.requires.walk.size in let q : c.index-w.result.now < length (graph c.args.edges.now) = c.requires.graph c.index-v.result.now c.index-w.result.now g in omega arith in
     omega arith
 
 pub open-requires : goal.open-requires
 open-requires c =
     let n : c.len.result ≡ length c.args.self.now.path.items = omega arith in
     let t : IsTop c.args.self.now.states.items c.args.self.now.path.items c.index-v.result.now = top-read (graph c.args.edges.now)
-        c.args.self.now c.len.result c.index-v.result.now c.requires.walk n c.requires.some c.index-v.ensures in
+    c.args.self.now c.len.result c.index-v.result.now c.requires.walk n c.requires.some c.index-v.ensures in
     let l : c.index-v.result.now < length c.args.self.now.states.items = t.within in
     let b : c.index-v.result.now < length c.args.edges.now = let z : length c.args.self.now.states.items ≡ length (graph c.args.edges.now)
-        = c.requires.walk.size in omega (arith, length-map c.args.edges.now (λ r. r.items)) in
+    = c.requires.walk.size in omega (arith, length-map c.args.edges.now (λ r. r.items)) in
     let r : edges_of (graph c.args.edges.now) c.index-v.result.now ≡ c.index-edges-v.result.items = edges-row c.args.edges.now c.index-v.result.now c.index-edges-v.result b c.index-edges-v.is in
     let a : c.looked-at.result < length c.index-edges-v.result.items = omega arith in
     let g : goes (graph c.args.edges.now) c.index-v.result.now c.index-w.result.now ≡ true = goes-read (graph c.args.edges.now)
-        c.index-v.result.now c.looked-at.result c.index-w.result.now c.index-edges-v.result.items r a c.index-w.ensures in
+    c.index-v.result.now c.looked-at.result c.index-w.result.now c.index-edges-v.result.items r a c.index-w.ensures in
     let k : c.index-w.result.now < length c.args.self.now.states.items = let z : length c.args.self.now.states.items ≡ length (graph c.args.edges.now)
-        = c.requires.walk.size in let q : c.index-w.result.now < length (graph c.args.edges.now) = c.requires.graph c.index-v.result.now c.index-w.result.now g in omega arith in
+    = c.requires.walk.size in let q : c.index-w.result.now < length (graph c.args.edges.now) = c.requires.graph c.index-v.result.now c.index-w.result.now g in omega arith in
     k
 
 pub index_mut-requires : goal.index_mut-requires
 index_mut-requires c =
     let n : c.len.result ≡ length c.args.self.now.path.items = omega arith in
     let t : IsTop c.args.self.now.states.items c.args.self.now.path.items c.index-v.result.now = top-read (graph c.args.edges.now)
-        c.args.self.now c.len.result c.index-v.result.now c.requires.walk n c.requires.some c.index-v.ensures in
+    c.args.self.now c.len.result c.index-v.result.now c.requires.walk n c.requires.some c.index-v.ensures in
     let l : c.index-v.result.now < length c.args.self.now.states.items = t.within in
     omega arith
 
@@ -103,16 +103,16 @@ pub returns-in_ok-open-in-New : goal.returns-in_ok-open-in-New
 returns-in_ok-open-in-New c =
     let n : c.len.result ≡ length c.args.self.now.path.items = omega arith in
     let t : IsTop c.args.self.now.states.items c.args.self.now.path.items c.index-v.result.now = top-read (graph c.args.edges.now)
-        c.args.self.now c.len.result c.index-v.result.now c.requires.walk n c.requires.some c.index-v.ensures in
+    c.args.self.now c.len.result c.index-v.result.now c.requires.walk n c.requires.some c.index-v.ensures in
     let l : c.index-v.result.now < length c.args.self.now.states.items = t.within in
     let b : c.index-v.result.now < length c.args.edges.now = let z : length c.args.self.now.states.items ≡ length (graph c.args.edges.now)
-        = c.requires.walk.size in omega (arith, length-map c.args.edges.now (λ r. r.items)) in
+    = c.requires.walk.size in omega (arith, length-map c.args.edges.now (λ r. r.items)) in
     let r : edges_of (graph c.args.edges.now) c.index-v.result.now ≡ c.index-edges-v.result.items = edges-row c.args.edges.now c.index-v.result.now c.index-edges-v.result b c.index-edges-v.is in
     let a : c.looked-at.result < length c.index-edges-v.result.items = omega arith in
     let g : goes (graph c.args.edges.now) c.index-v.result.now c.index-w.result.now ≡ true = goes-read (graph c.args.edges.now)
-        c.index-v.result.now c.looked-at.result c.index-w.result.now c.index-edges-v.result.items r a c.index-w.ensures in
+    c.index-v.result.now c.looked-at.result c.index-w.result.now c.index-edges-v.result.items r a c.index-w.ensures in
     let k : c.index-w.result.now < length c.args.self.now.states.items = let z : length c.args.self.now.states.items ≡ length (graph c.args.edges.now)
-        = c.requires.walk.size in let q : c.index-w.result.now < length (graph c.args.edges.now) = c.requires.graph c.index-v.result.now c.index-w.result.now g in omega arith in
+    = c.requires.walk.size in let q : c.index-w.result.now < length (graph c.args.edges.now) = c.requires.graph c.index-v.result.now c.index-w.result.now g in omega arith in
     let x : state_at c.args.self.now.states.items c.index-w.result.now ≡ c.index-2.result.now = state-read c.args.self.now.states.items c.index-w.result.now c.index-2.result.now k c.index-2.ensures in
     opened-turn (graph c.args.edges.now) c.args.self.now c.open.new.self c.index-w.result.now c.requires.walk k (x ∙ c.in-New.is)
     (pushed-goes (graph c.args.edges.now) c.args.self.now.path.items (take (length c.args.self.now.path.items - 1) c.args.self.now.path.items) c.index-v.result.now c.index-w.result.now t.last g)
@@ -122,16 +122,16 @@ pub returns-in-Open : goal.returns-in-Open
 returns-in-Open c =
     let n : c.len.result ≡ length c.args.self.now.path.items = omega arith in
     let t : IsTop c.args.self.now.states.items c.args.self.now.path.items c.index-v.result.now = top-read (graph c.args.edges.now)
-        c.args.self.now c.len.result c.index-v.result.now c.requires.walk n c.requires.some c.index-v.ensures in
+    c.args.self.now c.len.result c.index-v.result.now c.requires.walk n c.requires.some c.index-v.ensures in
     let l : c.index-v.result.now < length c.args.self.now.states.items = t.within in
     let b : c.index-v.result.now < length c.args.edges.now = let z : length c.args.self.now.states.items ≡ length (graph c.args.edges.now)
-        = c.requires.walk.size in omega (arith, length-map c.args.edges.now (λ r. r.items)) in
+    = c.requires.walk.size in omega (arith, length-map c.args.edges.now (λ r. r.items)) in
     let r : edges_of (graph c.args.edges.now) c.index-v.result.now ≡ c.index-edges-v.result.items = edges-row c.args.edges.now c.index-v.result.now c.index-edges-v.result b c.index-edges-v.is in
     let a : c.looked-at.result < length c.index-edges-v.result.items = omega arith in
     let g : goes (graph c.args.edges.now) c.index-v.result.now c.index-w.result.now ≡ true = goes-read (graph c.args.edges.now)
-        c.index-v.result.now c.looked-at.result c.index-w.result.now c.index-edges-v.result.items r a c.index-w.ensures in
+    c.index-v.result.now c.looked-at.result c.index-w.result.now c.index-edges-v.result.items r a c.index-w.ensures in
     let k : c.index-w.result.now < length c.args.self.now.states.items = let z : length c.args.self.now.states.items ≡ length (graph c.args.edges.now)
-        = c.requires.walk.size in let q : c.index-w.result.now < length (graph c.args.edges.now) = c.requires.graph c.index-v.result.now c.index-w.result.now g in omega arith in
+    = c.requires.walk.size in let q : c.index-w.result.now < length (graph c.args.edges.now) = c.requires.graph c.index-v.result.now c.index-w.result.now g in omega arith in
     let x : state_at c.args.self.now.states.items c.index-w.result.now ≡ c.index-2.result.now = state-read c.args.self.now.states.items c.index-w.result.now c.index-2.result.now k c.index-2.ensures in
     met-turn (graph c.args.edges.now) c.args.self.now c.index-v.result.now c.index-w.result.now c.requires.walk t g (ap is_open (x ∙ c.in-Open.is))
 
@@ -139,17 +139,17 @@ pub returns-in-Done : goal.returns-in-Done
 returns-in-Done c =
     let n : c.len.result ≡ length c.args.self.now.path.items = omega arith in
     let t : IsTop c.args.self.now.states.items c.args.self.now.path.items c.index-v.result.now = top-read (graph c.args.edges.now)
-        c.args.self.now c.len.result c.index-v.result.now c.requires.walk n c.requires.some c.index-v.ensures in
+    c.args.self.now c.len.result c.index-v.result.now c.requires.walk n c.requires.some c.index-v.ensures in
     let l : c.index-v.result.now < length c.args.self.now.states.items = t.within in
     let s : state_at c.args.self.now.states.items c.index-v.result.now ≡ c.index.result.now = state-read c.args.self.now.states.items c.index-v.result.now c.index.result.now l c.index.ensures in
     let b : c.index-v.result.now < length c.args.edges.now = let z : length c.args.self.now.states.items ≡ length (graph c.args.edges.now)
-        = c.requires.walk.size in omega (arith, length-map c.args.edges.now (λ r. r.items)) in
+    = c.requires.walk.size in omega (arith, length-map c.args.edges.now (λ r. r.items)) in
     let r : edges_of (graph c.args.edges.now) c.index-v.result.now ≡ c.index-edges-v.result.items = edges-row c.args.edges.now c.index-v.result.now c.index-edges-v.result b c.index-edges-v.is in
     let a : c.looked-at.result < length c.index-edges-v.result.items = omega arith in
     let g : goes (graph c.args.edges.now) c.index-v.result.now c.index-w.result.now ≡ true = goes-read (graph c.args.edges.now)
-        c.index-v.result.now c.looked-at.result c.index-w.result.now c.index-edges-v.result.items r a c.index-w.ensures in
+    c.index-v.result.now c.looked-at.result c.index-w.result.now c.index-edges-v.result.items r a c.index-w.ensures in
     let k : c.index-w.result.now < length c.args.self.now.states.items = let z : length c.args.self.now.states.items ≡ length (graph c.args.edges.now)
-        = c.requires.walk.size in let q : c.index-w.result.now < length (graph c.args.edges.now) = c.requires.graph c.index-v.result.now c.index-w.result.now g in omega arith in
+    = c.requires.walk.size in let q : c.index-w.result.now < length (graph c.args.edges.now) = c.requires.graph c.index-v.result.now c.index-w.result.now g in omega arith in
     let x : state_at c.args.self.now.states.items c.index-w.result.now ≡ c.index-2.result.now = state-read c.args.self.now.states.items c.index-w.result.now c.index-2.result.now k c.index-2.ensures in
     let d : has c.args.self.now.list.items c.index-w.result.now ≡ true = c.requires.walk.closed c.index-w.result.now ∙ ap is_done (x ∙ c.in-Done.is) in
     let new : Walk = record {

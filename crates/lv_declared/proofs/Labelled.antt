@@ -17,7 +17,6 @@ pub ok_to : {A E : Type 0} (r : Result A E) (P Q : Type 0) → (P → Q) → OnO
 ok_to (Ok x) P Q f h = f h
 ok_to (Err e) P Q f h = h
 
-
 joined : {X Y Z : Type 0} (f : Y → List Z) (g : X → Y) (xs : List X) → flat_map f (map g xs) ≡ flat_map (λ x. f (g x)) xs
 joined f g [] = refl
 joined f g (x ∷ xs) = ap (λ zs. f (g x) ++ zs) (joined f g xs)

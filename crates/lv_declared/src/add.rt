@@ -85,7 +85,10 @@ pub(crate) fn add_regs<'a>(
 }
 
 /// Instances.
-pub(crate) fn add_insts<'a>(list: &mut Vec<Declaration<'a>>, insts: &'a [Inst]) -> Result<(), NoMemory>
+pub(crate) fn add_insts<'a>(
+    list: &mut Vec<Declaration<'a>>,
+    insts: &'a [Inst],
+) -> Result<(), NoMemory>
     ensures { OnOk result (all_declared list.new.items ≡ all_declared list.old.items ++ map (λ n. declare s.Instance n.name) insts.now) }
 {
     for inst in insts {
@@ -98,7 +101,10 @@ pub(crate) fn add_insts<'a>(list: &mut Vec<Declaration<'a>>, insts: &'a [Inst]) 
 }
 
 /// Parameters, one group after another.
-pub(crate) fn add_groups<'a>(list: &mut Vec<Declaration<'a>>, groups: &'a [Params]) -> Result<(), NoMemory>
+pub(crate) fn add_groups<'a>(
+    list: &mut Vec<Declaration<'a>>,
+    groups: &'a [Params],
+) -> Result<(), NoMemory>
     ensures { OnOk result (all_declared list.new.items ≡ all_declared list.old.items ++ flat_map (of_params false) groups.now) }
 {
     for group in groups {
@@ -108,7 +114,10 @@ pub(crate) fn add_groups<'a>(list: &mut Vec<Declaration<'a>>, groups: &'a [Param
 }
 
 /// Ports, one direction after another.
-pub(crate) fn add_ports<'a>(list: &mut Vec<Declaration<'a>>, ports: &'a [Aport]) -> Result<(), NoMemory>
+pub(crate) fn add_ports<'a>(
+    list: &mut Vec<Declaration<'a>>,
+    ports: &'a [Aport],
+) -> Result<(), NoMemory>
     ensures { OnOk result (all_declared list.new.items ≡ all_declared list.old.items ++ flat_map of_port ports.now) }
 {
     for port in ports {

@@ -42,7 +42,10 @@ fn add_arm_labels<'a>(list: &mut Vec<Declaration<'a>>, arms: &'a [Arm]) -> Resul
 }
 
 #[cycle(labels)]
-fn add_other_labels<'a>(list: &mut Vec<Declaration<'a>>, other: &'a Option<Boxed<Stmt>>) -> Result<(), NoMemory>
+fn add_other_labels<'a>(
+    list: &mut Vec<Declaration<'a>>,
+    other: &'a Option<Boxed<Stmt>>,
+) -> Result<(), NoMemory>
     ensures { OnOk result (all_declared list.new.items ≡
         all_declared list.old.items ++ map (declare Label) (labels_or (option_map labels other.now))) }
 {
@@ -54,7 +57,10 @@ fn add_other_labels<'a>(list: &mut Vec<Declaration<'a>>, other: &'a Option<Boxed
 
 /// The names of the blocks in a statement.
 #[cycle(labels)]
-pub(crate) fn add_labels<'a>(list: &mut Vec<Declaration<'a>>, stmt: &'a Stmt) -> Result<(), NoMemory>
+pub(crate) fn add_labels<'a>(
+    list: &mut Vec<Declaration<'a>>,
+    stmt: &'a Stmt,
+) -> Result<(), NoMemory>
     ensures { OnOk result (all_declared list.new.items ≡ all_declared list.old.items ++ map (declare Label) (labels stmt.now)) }
 {
     match stmt {

@@ -4,7 +4,9 @@ ghost use Rattle.lv_source.specs.Declarations.{of_item, of_ports};
 ghost use Rattle.lv_declared.specs.Listing.{all_declared};
 ghost use Rattle.lv_declared.specs.Lists.{Adds, IsModule, IsBlock};
 
-use crate::add::{add_groups, add_insts, add_names, add_nets, add_params, add_port, add_ports, add_regs};
+use crate::add::{
+    add_groups, add_insts, add_names, add_nets, add_params, add_port, add_ports, add_regs,
+};
 use crate::declaration::{Declaration, Thing};
 use crate::labels::add_labels;
 use lv_ast::{Item, Module, Ports};

@@ -21,7 +21,7 @@ use Rattle.lv_const.specs.declared.full.Reach.{Reach}
 use Rattle.lv_const.specs.declared.error.ConstError.{ConstError}
 use Rattle.lv_const.specs.declared.error.ConstError.TheVariants as x
 use Rattle.lv_const.specs.Constants.{declared_of, constant_of}
-use Rattle.lv_const.specs.Answers.{IsOwn, HasOwn, HasNoOwn, IsFull, IsReached, HasReached, HasNoReached, IsPlain, IsPair, AreWidths, HaveWidths, IsJoint, HasNoJoint, IsOwnPick, IsFullPick}
+use Rattle.lv_const.specs.Answers.{read_role, IsOwn, HasOwn, HasNone, HasNoOwn, IsFull, IsReached, HasReached, HasNoReached, IsPlain, IsPair, AreWidths, HaveWidths, IsJoint, HasNoJoint, IsOwnPick, IsFullPick}
 use Rattle.lv_const.specs.Joins.{Valued, Owned, Paired, alone, spread, held, placed, paired, appended, greater_own, unary_own, binary_own, chosen_own, cast_own, joined_own, repeated_own, literal_own, literal_full, unary_kept, unary_bit, shifted, logical, arithmetic, compared, divided, remains, chosen, cast_full, joined_full, repeated_full}
 use Rattle.lv_const.specs.Picks.{IsSized, whole_own, whole_full, bit_own, part_own, run_own, bit_full, part_full, up_full, down_full}
 use Rattle.lv_source.specs.Constants.{early_or_none}
@@ -160,8 +160,7 @@ module _ (early : Path → Bool) (names : Names) (joined : Bool) (reach : Reach)
       (record {
         right = tt;
         wrong = record {
-          told = λ fixed.
-              (leaves.own-none early names joined path (map (walk_select names) ss) (no-entry (early path) (names path) d)).told fixed _ _;
+          told = λ fixed. leaves.unknown early names path (map (walk_select names) ss) (read_role joined) fixed _ _ (no-entry (early path) (names path) d);
         };
       })
 
@@ -412,8 +411,8 @@ module _ (early : Path → Bool) (names : Names) (path : Path) (c : Const) where
         (subst (λ u. IsPlain early (walk_step names (Expr-F.Name path [])) joined (Ok u)) (sym e) (plains.full-whole early names path c known ahead z joined));
   }
 
-  many : (ss : List Select) → 2 ≤ length ss → names path ≡ Some (constant_of path.name c) → (joined : Bool) →
-      HasNoOwn early (walk_step names (Expr-F.Name path (map (walk_select names) ss))) joined (x.Range path.place)
+  many : {valued : Bool} (ss : List Select) → 2 ≤ length ss → names path ≡ Some (constant_of path.name c) → (joined : Bool) →
+      HasNone valued early (walk_step names (Expr-F.Name path (map (walk_select names) ss))) joined (x.Range path.place)
   many [] h known joined = absurd (omega (arith, h))
   many (s ∷ []) h known joined = absurd (omega (arith, h))
   many (s ∷ (t ∷ ss)) h known joined = plains.many early names path c (walk_select names s) (walk_select names t) (map (walk_select names) ss) known joined

@@ -5,7 +5,6 @@ use Rattle.std.specs.Prelude.{nat_lt, if◌then◌else◌}
 use Rattle.std.proofs.lemmas.List.Sums.{sum_by-cons}
 use Rattle.std.proofs.lemmas.Bool.Decides.{nat_tests}
 use Rattle.lv_bits.specs.Values.{signed_of, extended}
-use Rattle.lv_const.specs.Widths.{span}
 use Rattle.std.proofs.Math.Nat.{mod-eq_of_lt, pow-suc}
 use Rattle.std.proofs.lemmas.Nat.{mod-pow-add, mod_below}
 use Rattle.lv_ast.specs.declared.expr.Literal.{Literal}
@@ -13,7 +12,7 @@ use Rattle.lv_ast.specs.declared.expr.Path.{Path}
 use Rattle.lv_ast.specs.declared.expr.Expr.{Expr}
 use Rattle.lv_ast.specs.declared.expr.Expr.TheVariants as e
 use Rattle.lv_ast.specs.declared.expr.Expr.TheOpen.{Expr-F}
-use Rattle.lv_source.specs.Names.{Names, width_of}
+use Rattle.lv_source.specs.Names.{Names, Bounds, size, width_of}
 use Rattle.lv_source.specs.Values.{Meaning, widths, size_of, own_value, nowhere}
 use Rattle.lv_source.specs.Places.{all_bits, read_bits, rising}
 use Rattle.lv_source.specs.Meaning.{meanings}
@@ -24,10 +23,11 @@ use Rattle.lv_const.specs.declared.error.ConstError.TheVariants as x
 use Rattle.lv_const.specs.Constants.{constant_of}
 use Rattle.lv_source.specs.NodeRules.{is_width, is_literal_fault, is_positive, number, is_written, is_early}
 use Rattle.lv_source.specs.Sites.{Walk, WalkStep, Role, Joined, walk, walk_step, below_sites, joined_role, is_driven, first_place, fixed_sites}
-use Rattle.lv_const.specs.Answers.{Told, HasOwn, HasNoOwn, IsOwn, HasFull, IsFull, HaveWidths, AreWidths, read_role, total_width, joined_sites}
+use Rattle.lv_const.specs.Answers.{ToldOf, HasOwn, HasNone, HasNoOwn, IsOwn, HasFull, IsFull, HaveWidths, AreWidths, read_role, total_width, joined_sites}
 use Rattle.lv_const.specs.Joins.{joined_own, is_count, repeated_own, literal_own}
-use Rattle.lv_const.proofs.Told.{sound-none, sound-node, sound-both, told-first, told-second, told-range, told-name, width_in}
+use Rattle.lv_const.proofs.Told.{formed-none, formed-node, formed-both, formed-count, told-first, told-second, told-range, told-name, width_in}
 use Rattle.lv_const.proofs.Owns.{site_of, has, hasnt}
+use Rattle.lv_const.proofs.Reached.{full-divided}
 use Rattle.lv_const.proofs.Numbers.{split}
 use Rattle.lv_const.proofs.Walks.{walk-Lit, walk-Cat, walk-Rep}
 
@@ -97,11 +97,11 @@ module _ (early : Path → Bool) (names : Names) (joined : Bool) where
     some = is-width_some (size_of l.size) h;
     most = is-width_most (size_of l.size) h;
     constant = refl;
-    sound = λ fixed W T. sound-node early (site_of names (Expr-F.Lit l) (read_role joined) fixed W T) [] (rw (h, k) refl) (sound-none early);
+    sound = λ fixed W T. formed-node early (site_of names (Expr-F.Lit l) (read_role joined) fixed W T) [] (rw (h, k) refl) (formed-none early);
   }
 
-  pub lit-wrong : (l : Literal) → (is_width (size_of l.size) && not (is_literal_fault (read_role joined) l)) ≡ false →
-      HasNoOwn early (walk_step names (Expr-F.Lit l)) joined (x.Range l.place)
+  pub lit-wrong : {valued : Bool} (l : Literal) → (is_width (size_of l.size) && not (is_literal_fault (read_role joined) l)) ≡ false →
+      HasNone valued early (walk_step names (Expr-F.Lit l)) joined (x.Range l.place)
   lit-wrong l h = record {
     told = λ fixed W T. told-range early (site_of names (Expr-F.Lit l) (read_role joined) fixed W T) []
         (wrong-or (is_width (size_of l.size)) (is_literal_fault (read_role joined) l) h);
@@ -144,12 +144,12 @@ read-all zero a = sym (mod_one a)
 read-all (suc n) a = read-append a (all_bits n) n ∙ (ap (λ k. k + a / 2 ^ n % 2 * 2 ^ length (all_bits n)) (read-all n a) ∙
     (ap (λ k. a % 2 ^ n + a / 2 ^ n % 2 * 2 ^ k) (length-all_bits n) ∙ next-bit n a))
 
-pub bare-value : (T : Bool) (left right w W a : ℕ) → span left right ≡ w → a < 2 ^ w →
-    extended T w W a ≡ extended T (length (all_bits (span left right))) W (read_bits a (all_bits (span left right)))
-bare-value T left right w W a e fits =
-    let r : read_bits a (all_bits (span left right)) ≡ a = read-all (span left right) a ∙ (ap (λ k. a % 2 ^ k) e ∙ mod-eq_of_lt fits) in
-    sym (ap (λ k. extended T (length (all_bits (span left right))) W k) r ∙
-    (ap (λ k. extended T k W a) (length-all_bits (span left right)) ∙ ap (λ k. extended T k W a) e))
+pub bare-value : (T : Bool) (b : Bounds) (w W a : ℕ) → size b ≡ w → a < 2 ^ w →
+    extended T w W a ≡ extended T (length (all_bits (size b))) W (read_bits a (all_bits (size b)))
+bare-value T b w W a e fits =
+    let r : read_bits a (all_bits (size b)) ≡ a = read-all (size b) a ∙ (ap (λ k. a % 2 ^ k) e ∙ mod-eq_of_lt fits) in
+    sym (ap (λ k. extended T (length (all_bits (size b))) W k) r ∙
+    (ap (λ k. extended T k W a) (length-all_bits (size b)) ∙ ap (λ k. extended T k W a) e))
 
 pub length-rising : (from : ℤ) (n : ℕ) → length (rising from n) ≡ n
 length-rising from zero = refl
@@ -165,19 +165,19 @@ module _ (early : Path → Bool) (names : Names) (joined : Bool) (path : Path) (
     some = some;
     most = most;
     constant = rw known refl;
-    sound = λ fixed W T. sound-node early (site_of names (Expr-F.Name path []) (read_role joined) fixed W T) []
+    sound = λ fixed W T. formed-node early (site_of names (Expr-F.Name path []) (read_role joined) fixed W T) []
         (rw (
           known,
           ahead,
           unwritten joined,
           length-all_bits (width_of (constant_of path.name c)),
           width_in (width_of (constant_of path.name c)) some most,
-        ) refl) (sound-none early);
+        ) refl) (formed-none early);
   }
 
 module _ (early : Path → Bool) (names : Names) (path : Path) (ss : List WalkStep) (role : Role) (fixed : Option ℕ) (W : ℕ) (T : Bool) where
-  pub unknown : is_early (early path) (names path) ≡ false →
-      Told early (site_of names (Expr-F.Name path ss) role fixed W T ∷ below_sites (Expr-F.Name path ss) role fixed W T) (x.NoValue path.place)
+  pub unknown : {each : Bool} → is_early (early path) (names path) ≡ false →
+      ToldOf each early (site_of names (Expr-F.Name path ss) role fixed W T ∷ below_sites (Expr-F.Name path ss) role fixed W T) (x.NoValue path.place)
   unknown h = told-name early (site_of names (Expr-F.Name path ss) role fixed W T) (below_sites (Expr-F.Name path ss) role fixed W T) path.place (rw h refl)
 
 module _ (early : Path → Bool) where
@@ -258,17 +258,19 @@ module _ (early : Path → Bool) (names : Names) (joined : Bool) where
     some = is-width_some (f.word.value * total) k;
     most = is-width_most (f.word.value * total) k;
     constant = rw (h.own.constant) (shown-constant ws ∙ g.constant);
-    sound = λ fixed W T. sound-node early (site_of names (Expr-F.Rep n ws) (read_role joined) fixed W T)
+    sound = λ fixed W T. formed-node early (site_of names (Expr-F.Rep n ws) (read_role joined) fixed W T)
         (below_sites (Expr-F.Rep n ws) (read_role joined) fixed W T)
         (let e : is_width (walk_step names (Expr-F.Rep n ws)).shown.reading.meaning.width ≡ true = ap is_width (sym (rep-width n ws f total h g)) ∙ k in
         let p : is_positive (number n.shown) ≡ true = sym (positive early n f h) ∙ c in rw (e, p) refl)
-        (sound-both early (fixed_sites n) (joined_sites fixed ws)
-        (h.own.sound (Some (first_place n.shown)) n.shown.reading.meaning.width n.shown.reading.meaning.signed) (g.sound fixed));
+        (formed-both early (fixed_sites n) (joined_sites fixed ws)
+        (formed-count early (fixed_sites n) (first_place n.shown)
+        (h.own.sound (Some (first_place n.shown)) n.shown.reading.meaning.width n.shown.reading.meaning.signed)
+        (full-divided early n false f h false (Some (first_place n.shown)))) (g.sound fixed));
   }
 
-  pub rep-wide : (n : Walk) (ws : List Walk) (f : Full) (total : ℕ) → HasFull early n false f → HaveWidths early ws total →
+  pub rep-wide : {valued : Bool} (n : Walk) (ws : List Walk) (f : Full) (total : ℕ) → HasFull early n false f → HaveWidths early ws total →
       (is_width (f.word.value * total) ≡ false) ⊎ (is_count f ≡ false) →
-      HasNoOwn early (walk_step names (Expr-F.Rep n ws)) joined (x.Range (first_place (walk_step names (Expr-F.Rep n ws)).shown))
+      HasNone valued early (walk_step names (Expr-F.Rep n ws)) joined (x.Range (first_place (walk_step names (Expr-F.Rep n ws)).shown))
   rep-wide n ws f total h g (inl k) =
       let e : is_width (walk_step names (Expr-F.Rep n ws)).shown.reading.meaning.width ≡ false = ap is_width (sym (rep-width n ws f total h g)) ∙ k in
       record {

@@ -9,8 +9,8 @@ use Rattle.lv_const.specs.declared.error.ConstError.TheVariants as x
 use Rattle.lv_source.specs.Sites.{Walk, walk, Joined, own_sites}
 use Rattle.lv_ast.specs.declared.expr.Expr.{Expr}
 use Rattle.lv_source.specs.Names.{Names}
-use Rattle.lv_const.specs.Answers.{Told, Sound, HasOwn, HasNoOwn, HaveWidths, HaveNoWidths, total_width, joined_sites, HasFull, HasNoFull, HasNoReached, IsReached, HasJoint, HasNoJoint, inside, wide, Divides}
-use Rattle.lv_const.proofs.Told.{sound-none, sound-both, told-first, told-second, divides-none, divides-both}
+use Rattle.lv_const.specs.Answers.{ToldOf, SoundAt, HasOwn, HasNoOwn, HaveWidths, HaveNoWidths, HaveNoWords, total_width, joined_sites, HasFull, HasNoFull, HasNoReached, IsReached, HasJoint, HasNoJoint, inside, wide, Divides}
+use Rattle.lv_const.proofs.Told.{formed-none, formed-both, told-first, told-second, divides-none, divides-both}
 use Rattle.lv_const.proofs.Numbers.{split}
 use Rattle.lv_const.specs.Joins.{Valued, appended, alone}
 use Rattle.lv_bits.specs.Words.{Bits}
@@ -44,7 +44,7 @@ sites-snoc fixed ws w = flat_map-append (own_sites Joined fixed) ws (w ∷ [])
 
 module _ (early : Path → Bool) where
   pub widths-none : HaveWidths early [] 0
-  widths-none = record { width = refl; most = omega arith; constant = refl; sound = λ fixed. sound-none early }
+  widths-none = record { width = refl; most = omega arith; constant = refl; sound = λ fixed. formed-none early }
 
   pub widths-more : (ws : List Walk) (w : Walk) (total : ℕ) (o : Own) → HaveWidths early ws total → HasOwn early w true o →
       HaveWidths early (ws ++ w ∷ []) (total + o.width)
@@ -52,9 +52,9 @@ module _ (early : Path → Bool) where
     width = rw (h.width, k.width) (sym (total-snoc ws w));
     most = omega (arith, h.most, k.most, length-append ws (w ∷ []));
     constant = all-snoc ws w h.constant k.constant;
-    sound = λ fixed. subst (Sound early) (sym (sites-snoc fixed ws w))
-        (sound-both early _ _ (h.sound fixed) (sound-both early _ [] (k.sound fixed w.shown.reading.meaning.width w.shown.reading.meaning.signed)
-        (sound-none early)));
+    sound = λ fixed. subst (SoundAt fixed early) (sym (sites-snoc fixed ws w))
+        (formed-both early _ _ (h.sound fixed) (formed-both early _ [] (k.sound fixed w.shown.reading.meaning.width w.shown.reading.meaning.signed)
+        (formed-none early)));
   }
 
   -- one of them, where it stands
@@ -63,7 +63,7 @@ module _ (early : Path → Bool) where
   widths-wrong [] i w x h e k = absurd (omega (arith, h))
   widths-wrong (v ∷ ws) zero w x h e k = record {
     told = λ fixed. told-first early _ _ x
-        (subst (λ u. Told early (own_sites Joined fixed u) x) (sym e) (k.told fixed w.shown.reading.meaning.width w.shown.reading.meaning.signed));
+        (subst (λ u. ToldOf false early (own_sites Joined fixed u) x) (sym e) (k.told fixed w.shown.reading.meaning.width w.shown.reading.meaning.signed));
   }
   widths-wrong (v ∷ ws) (suc i) w x h e k = let r : HaveNoWidths early ws x = widths-wrong ws i w x (omega (arith, h)) e k in
       record { told = λ fixed. told-second early _ _ x (r.told fixed) }
@@ -73,7 +73,7 @@ module _ (early : Path → Bool) where
   widths-wrong_at names [] i z y h e k = absurd (omega (arith, h))
   widths-wrong_at names (v ∷ es) zero z y h e k = record {
     told =
-        λ fixed. told-first early _ _ y (subst (λ u. Told early (own_sites Joined fixed (walk names u)) y) (sym e)
+        λ fixed. told-first early _ _ y (subst (λ u. ToldOf false early (own_sites Joined fixed (walk names u)) y) (sym e)
         (k.told fixed (walk names z).shown.reading.meaning.width (walk names z).shown.reading.meaning.signed));
   }
   widths-wrong_at names (v ∷ es) (suc i) z y h e k = let r : HaveNoWidths early (map (walk names) es) y =
@@ -184,7 +184,7 @@ module _ (early : Path → Bool) where
   -- where one is refused
   pub so-far_wrong : (ws us : List Walk) (w : Walk) (place : ℕ) (joint : Option Bits) (r : Valued) (y : ConstError) → IsSoFar early ws joint →
       IsReached early w true alone r → appended place joint r ≡ Err y →
-      ((z : ConstError) → HasNoReached early w true alone z → HaveNoWidths early (ws ++ w ∷ us) z) → HasNoJoint early (ws ++ w ∷ us) place y
+      ((z : ConstError) → HasNoReached early w true alone z → HaveNoWords early (ws ++ w ∷ us) z) → HasNoJoint early (ws ++ w ∷ us) place y
   so-far_wrong ws us w place joint (Err z) y h g e t = subst (HasNoJoint early (ws ++ w ∷ us) place) (is-wrong z y (Err z) refl e) (inside (t z g.wrong))
   so-far_wrong ws us w place None (Ok f) y (first n) g e t = absurd (not-both f.word y (Ok f.word) refl e)
   so-far_wrong ws us w place (Some high) (Ok f) y (more j) g e t = elim (split (nat_le (high.width + f.word.width) 128)) [
@@ -208,9 +208,9 @@ parted names (y ∷ es) (suc i) z h e =
     ap (λ n. walk names y ∷ (map (walk names) (take i es) ++ walk names z ∷ map (walk names) (drop n (y ∷ es)))) (sym k)
 
 module _ (early : Path → Bool) where
-  pub one-wrong : (ws us : List Walk) (w : Walk) (y : ConstError) → HasNoFull early w true y → HaveNoWidths early (ws ++ w ∷ us) y
+  pub one-wrong : (ws us : List Walk) (w : Walk) (y : ConstError) → HasNoFull early w true y → HaveNoWords early (ws ++ w ∷ us) y
   one-wrong [] us w y h = record { told = λ fixed. told-first early _ _ y (h.told fixed) }
-  one-wrong (v ∷ ws) us w y h = let r : HaveNoWidths early (ws ++ w ∷ us) y = one-wrong ws us w y h in
+  one-wrong (v ∷ ws) us w y h = let r : HaveNoWords early (ws ++ w ∷ us) y = one-wrong ws us w y h in
       record { told = λ fixed. told-second early _ _ y (r.told fixed) }
 
 pub take-whole : {A : Type 0} (xs : List A) (i : ℕ) → length xs ≤ i → take i xs ≡ xs

@@ -9,13 +9,13 @@ use Rattle.lv_ast.specs.declared.expr.Expr.TheOpen.{Expr-F}
 use Rattle.lv_source.specs.Names.{Names}
 use Rattle.lv_const.specs.declared.own.Own.{Own}
 use Rattle.lv_const.specs.declared.error.ConstError.{ConstError}
-use Rattle.lv_source.specs.Sites.{Site, Walk, WalkStep, Shown, Step, Role, Value, walk, walk_step, below_sites, node_shown, shown_of}
+use Rattle.lv_source.specs.Sites.{Site, Walk, WalkStep, Shown, Step, Role, Value, walk, walk_step, is_absent, below_sites, node_shown, shown_of}
 use Rattle.lv_const.specs.Faults.{unfixed, form_faults}
-use Rattle.lv_const.specs.Answers.{Told, Sound, HasOwn, HasNoOwn, IsOwn, read_role}
+use Rattle.lv_const.specs.Answers.{ToldOf, SoundAt, HasOwn, HasNone, HasNoOwn, IsOwn, read_role}
 use Rattle.lv_const.specs.Joins.{Owned, bit, greater, unary_own, binary_both, binary_own, greater_own, chosen_own, cast_own}
 use Rattle.lv_source.specs.NodeRules.{is_width, unfixed_division, out_of_range}
 use Rattle.lv_const.proofs.Numbers.{split}
-use Rattle.lv_const.proofs.Told.{both-empty, sound-node, sound-both, told-below, told-first, told-second, width_in}
+use Rattle.lv_const.proofs.Told.{both-empty, formed-node, formed-both, told-below, told-first, told-second, width_in}
 use Rattle.lv_const.proofs.Walks.{walk-Un, walk-Bin, walk-Div, walk-Rem, walk-Cond, walk-Cast}
 
 abbrev pub is_plain : Expr-F Shown Step → Bool
@@ -79,20 +79,21 @@ module _ (early : Path → Bool) (names : Names) (x : Expr-F Walk WalkStep) (joi
   pub has : (o : Own) → is_plain (node_shown x) ≡ true → o.width ≡ (walk_step names x).shown.reading.meaning.width →
       o.signed ≡ (walk_step names x).shown.reading.meaning.signed →
       1 ≤ o.width → o.width ≤ 128 → (walk_step names x).shown.reading.constant ≡ true →
-      ((fixed : Option ℕ) (W : ℕ) (T : Bool) → Sound early (below_sites x (read_role joined) fixed W T)) → HasOwn early (walk_step names x) joined o
+      ((fixed : Option ℕ) (W : ℕ) (T : Bool) → SoundAt fixed early (below_sites x (read_role joined) fixed W T)) → HasOwn early (walk_step names x) joined o
   has o p width signed some most constant sound = record {
     width = width;
     signed = signed;
     some = some;
     most = most;
     constant = constant;
-    sound = λ fixed W T. sound-node early (site_of names x (read_role joined) fixed W T) (below_sites x (read_role joined) fixed W T)
+    sound = λ fixed W T. formed-node early (site_of names x (read_role joined) fixed W T) (below_sites x (read_role joined) fixed W T)
         (plain-fits early (site_of names x (read_role joined) fixed W T) p (steady names x (read_role joined) fixed W T constant)
         (ap is_width (sym width) ∙ width_in o.width some most)) (sound fixed W T);
   }
 
-  pub hasnt : (e : ConstError) → ((fixed : Option ℕ) (W : ℕ) (T : Bool) → Told early (below_sites x (read_role joined) fixed W T) e) →
-      HasNoOwn early (walk_step names x) joined e
+  pub hasnt : {valued : Bool} (e : ConstError) →
+      ((fixed : Option ℕ) (W : ℕ) (T : Bool) → ToldOf (valued && is_absent fixed) early (below_sites x (read_role joined) fixed W T) e) →
+      HasNone valued early (walk_step names x) joined e
   hasnt e h = record {
     told = λ fixed W T. told-below early (site_of names x (read_role joined) fixed W T) (below_sites x (read_role joined) fixed W T) e
         (h fixed W T);
@@ -136,8 +137,8 @@ module _ (early : Path → Bool) (names : Names) (joined : Bool) where
   two-true a b h k = rw (h, k)
 
   two-sound : (a b : Walk) (o p : Own) → HasOwn early a false o → HasOwn early b false p → (fixed : Option ℕ) (W : ℕ) (T : Bool) (V : ℕ) (S : Bool) →
-      Sound early (a.sites Value fixed W T ++ b.sites Value fixed V S)
-  two-sound a b o p h k fixed W T V S = sound-both early (a.sites Value fixed W T) (b.sites Value fixed V S) (h.sound fixed W T) (k.sound fixed V S)
+      SoundAt fixed early (a.sites Value fixed W T ++ b.sites Value fixed V S)
+  two-sound a b o p h k fixed W T V S = formed-both early (a.sites Value fixed W T) (b.sites Value fixed V S) (h.sound fixed W T) (k.sound fixed V S)
 
   -- at the greater width, and signed only if both are
   pub spread-width : (a b : Walk) (o p : Own) → HasOwn early a false o → HasOwn early b false p → max o.width p.width ≡ max (width_at a) (width_at b)
@@ -193,8 +194,8 @@ module _ (early : Path → Bool) (names : Names) (joined : Bool) where
 
   -- the operands' sites in each case
   bin-told : (op : Op) (a b : Walk) (x : ConstError) (fixed : Option ℕ) (W : ℕ) (T : Bool) →
-      ((V : ℕ) (S : Bool) (U : ℕ) (R : Bool) → Told early (a.sites Value fixed V S ++ b.sites Value fixed U R) x) →
-      Told early (below_sites (Expr-F.Bin op a b) (read_role joined) fixed W T) x
+      ((V : ℕ) (S : Bool) (U : ℕ) (R : Bool) → ToldOf false early (a.sites Value fixed V S ++ b.sites Value fixed U R) x) →
+      ToldOf false early (below_sites (Expr-F.Bin op a b) (read_role joined) fixed W T) x
   bin-told op a b x fixed W T h = elim (split (keeps_width op)) [
     | inl k ↦ elim (split (is_apart op)) [
       | inl j ↦ rw (k, j) (h W T (width_at b) (signed_at b))
@@ -278,7 +279,7 @@ module _ (early : Path → Bool) (names : Names) (joined : Bool) where
       has early names (Expr-F.Cond c a b) joined (greater o p) refl (spread-width a b o p h g) (spread-signed a b o p h g) (spread-some a b o p h g)
       (spread-most a b o p h g)
       (rw (f.constant, h.constant, g.constant) refl)
-      (λ fixed W T. sound-both early _ _ (sound-both early _ _ (f.sound fixed (width_at c) (signed_at c)) (h.sound fixed W T)) (g.sound fixed W T))
+      (λ fixed W T. formed-both early _ _ (formed-both early _ _ (f.sound fixed (width_at c) (signed_at c)) (h.sound fixed W T)) (g.sound fixed W T))
 
   choose : (c a b : Walk) (s r q : Owned) → IsOwn early c false s → IsOwn early a false r → IsOwn early b false q →
       IsOwn early (walk_step names (Expr-F.Cond c a b)) joined (chosen_own s r q)

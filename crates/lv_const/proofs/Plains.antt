@@ -13,18 +13,18 @@ use Rattle.lv_ast.specs.declared.expr.Expr.TheOpen.{Expr-F}
 use Rattle.lv_source.specs.Names.{Names}
 use Rattle.lv_source.specs.Values.{widths, joined, repeated, size_of}
 use Rattle.lv_source.specs.Meaning.{meanings}
-use Rattle.lv_source.specs.Sites.{Walk, WalkStep, walk_step, step_shown, below_sites, first_place, fixed_sites}
+use Rattle.lv_source.specs.Sites.{Walk, WalkStep, walk_step, step_shown, below_sites, first_place, fixed_sites, is_absent}
 use Rattle.lv_source.specs.NodeRules.{is_width, is_literal_fault, is_positive, number}
 use Rattle.lv_const.specs.declared.constant.Const.{Const}
 use Rattle.lv_const.specs.declared.full.Full.{Full}
 use Rattle.lv_const.specs.declared.error.ConstError.{ConstError}
 use Rattle.lv_const.specs.declared.error.ConstError.TheVariants as x
-use Rattle.lv_const.specs.Constants.{constant_of}
-use Rattle.lv_const.specs.Answers.{HasOwn, HasNoOwn, IsOwn, HasFull, IsFull, HasPlain, IsPlain, HasJoint, HasNoJoint, IsJoint, inside, wide, total_width, joined_sites, read_role}
+use Rattle.lv_const.specs.Constants.{bounds_of, constant_of}
+use Rattle.lv_const.specs.Answers.{HasOwn, HasNone, HasNoPlain, IsOwn, HasFull, IsFull, HasPlain, IsPlain, HasJoint, HasNoJoint, IsJoint, inside, wide, total_width, joined_sites, read_role}
 use Rattle.lv_const.specs.Joins.{Valued, literal_word, literal_full, joined_full, is_count, repeated_full}
 use Rattle.lv_const.specs.Picks.{IsSized, whole_own, whole_full}
 use Rattle.lv_const.proofs.Numbers.{split}
-use Rattle.lv_const.proofs.Told.{divides-none, divides-both, told-range, told-first, told-second, width_in}
+use Rattle.lv_const.proofs.Told.{divides-none, divides-both, told-range, told-first, told-second, told-too, width_in}
 use Rattle.lv_const.proofs.Owns.{site_of, hasnt}
 use Rattle.lv_const.proofs.Leaves as leaves
 use Rattle.lv_const.proofs.Lists.{meant_all}
@@ -63,7 +63,7 @@ module _ (early : Path → Bool) (names : Names) (path : Path) (c : Const)
   pub full-whole : IsPlain early (walk_step names (Expr-F.Name path [])) joined (Ok (whole_full c))
   full-whole = record {
     right = plain-node early names joined (Expr-F.Name path []) (whole_full c) refl whole-right
-        (λ W T v. rw known (sym (leaves.bare-value T c.left c.right c.word.width W c.word.value z.spans z.fits))) z.fits (λ j fixed W T. divides-none);
+        (λ W T v. rw known (sym (leaves.bare-value T (bounds_of c) c.word.width W c.word.value z.spans z.fits))) z.fits (λ j fixed W T. divides-none);
     wrong = tt;
   }
 
@@ -72,8 +72,8 @@ two-many : (n : ℕ) → nat_le (suc (suc n)) 1 ≡ false
 two-many n = grind (arith, nat_tests)
 
 module _ (early : Path → Bool) where
-  pub many : (names : Names) (path : Path) (c : Const) (s t : WalkStep) (ss : List WalkStep) → names path ≡ Some (constant_of path.name c) → (joined : Bool) →
-      HasNoOwn early (walk_step names (Expr-F.Name path (s ∷ (t ∷ ss)))) joined (x.Range path.place)
+  pub many : {valued : Bool} (names : Names) (path : Path) (c : Const) (s t : WalkStep) (ss : List WalkStep) → names path ≡ Some (constant_of path.name c) → (joined : Bool) →
+      HasNone valued early (walk_step names (Expr-F.Name path (s ∷ (t ∷ ss)))) joined (x.Range path.place)
   many names path c s t ss known joined = record {
     told = λ fixed W T. told-range early (site_of names (Expr-F.Name path (s ∷ (t ∷ ss))) (read_role joined) fixed W T)
         (below_sites (Expr-F.Name path (s ∷ (t ∷ ss))) (read_role joined) fixed W T)
@@ -96,7 +96,7 @@ module _ (early : Path → Bool) (names : Names) (joined_too : Bool) where
       h.fits (λ j fixed W T. rw (leaves.joins j) (h.divides fixed))
 
   cat-wide : (ws : List Walk) → is_width (total_width ws) ≡ false →
-      HasNoOwn early (walk_step names (Expr-F.Cat ws)) joined_too (x.Range (first_place (walk_step names (Expr-F.Cat ws)).shown))
+      HasNoPlain early (walk_step names (Expr-F.Cat ws)) joined_too (x.Range (first_place (walk_step names (Expr-F.Cat ws)).shown))
   cat-wide ws k =
       let e : is_width (widths (meanings (map (λ r. r.reading) (map (λ w. w.shown) ws)))) ≡ false = ap is_width (leaves.shown-widths ws) ∙ k in
       record {
@@ -105,7 +105,7 @@ module _ (early : Path → Bool) (names : Names) (joined_too : Bool) where
       }
 
   cat-wrong : (ws : List Walk) (y : ConstError) → HasNoJoint early ws (first_place (walk_step names (Expr-F.Cat ws)).shown) y →
-      HasNoOwn early (walk_step names (Expr-F.Cat ws)) joined_too y
+      HasNoPlain early (walk_step names (Expr-F.Cat ws)) joined_too y
   cat-wrong ws y (inside h) = hasnt early names (Expr-F.Cat ws) joined_too y (λ fixed W T. rw (leaves.joins joined_too) (h.told fixed))
   cat-wrong ws y (wide k) = cat-wide ws k
 
@@ -160,7 +160,7 @@ module _ (early : Path → Bool) (names : Names) (joined_too : Bool) where
 
   rep-told : (n : Walk) (ws : List Walk) → (is_width (walk_step names (Expr-F.Rep n ws)).shown.reading.meaning.width ≡ false) ⊎
       (is_positive (number n.shown) ≡ false) →
-      HasNoOwn early (walk_step names (Expr-F.Rep n ws)) joined_too (x.Range (first_place (walk_step names (Expr-F.Rep n ws)).shown))
+      HasNoPlain early (walk_step names (Expr-F.Rep n ws)) joined_too (x.Range (first_place (walk_step names (Expr-F.Rep n ws)).shown))
   rep-told n ws (inl k) = record {
     told = λ fixed W T. told-range early (site_of names (Expr-F.Rep n ws) (read_role joined_too) fixed W T)
         (below_sites (Expr-F.Rep n ws) (read_role joined_too) fixed W T) (rw k refl);
@@ -171,7 +171,7 @@ module _ (early : Path → Bool) (names : Names) (joined_too : Bool) where
   }
 
   rep-wide : (n : Walk) (ws : List Walk) (f : Full) → HasFull early n false f → is_width (total_width ws) ≡ false →
-      HasNoOwn early (walk_step names (Expr-F.Rep n ws)) joined_too (x.Range (first_place (walk_step names (Expr-F.Rep n ws)).shown))
+      HasNoPlain early (walk_step names (Expr-F.Rep n ws)) joined_too (x.Range (first_place (walk_step names (Expr-F.Rep n ws)).shown))
   rep-wide n ws f h k = elim (split (is_count f)) [
     | inl c ↦ rep-told n ws (inl (ap is_width (ap (λ i. i * widths (meanings (map (λ r. r.reading) (map (λ w. w.shown) ws))))
         (sym (leaves.count-value early n f h)) ∙
@@ -182,14 +182,14 @@ module _ (early : Path → Bool) (names : Names) (joined_too : Bool) where
 
   rep-wrong : (n : Walk) (ws : List Walk) (f : Full) (y : ConstError) → HasFull early n false f →
       HasNoJoint early ws (first_place (walk_step names (Expr-F.Rep n ws)).shown) y →
-      HasNoOwn early (walk_step names (Expr-F.Rep n ws)) joined_too y
+      HasNoPlain early (walk_step names (Expr-F.Rep n ws)) joined_too y
   rep-wrong n ws f y h (inside g) = hasnt early names (Expr-F.Rep n ws) joined_too y
       (λ fixed W T. told-second early (fixed_sites n) (joined_sites fixed ws) y (g.told fixed))
   rep-wrong n ws f y h (wide k) = rep-wide n ws f h k
 
   rep-bad : (n : Walk) (ws : List Walk) (f : Full) (word : Bits) → HasFull early n false f → HasJoint early ws word →
       is_count f && is_width (f.word.value * word.width) ≡ false →
-      HasNoOwn early (walk_step names (Expr-F.Rep n ws)) joined_too (x.Range (first_place (walk_step names (Expr-F.Rep n ws)).shown))
+      HasNoPlain early (walk_step names (Expr-F.Rep n ws)) joined_too (x.Range (first_place (walk_step names (Expr-F.Rep n ws)).shown))
   rep-bad n ws f word h g e = elim (split (is_count f)) [
     | inl c ↦ leaves.rep-wide early names joined_too n ws f word.width h g.widths (inl (rw c at e))
     | inr c ↦ leaves.rep-wide early names joined_too n ws f word.width h g.widths (inr c)
@@ -201,7 +201,8 @@ module _ (early : Path → Bool) (names : Names) (joined_too : Bool) where
   rep n ws (Err y) q h g = record {
     right = tt;
     wrong = hasnt early names (Expr-F.Rep n ws) joined_too y
-        (λ fixed W T. told-first early (fixed_sites n) (joined_sites fixed ws) y (h.wrong.told (Some (first_place n.shown))));
+        (λ fixed W T. told-first early (fixed_sites n) (joined_sites fixed ws) y
+        (told-too early (is_absent fixed) (fixed_sites n) y (h.wrong.told (Some (first_place n.shown)))));
   }
   rep n ws (Ok f) (Err y) h g = record { right = tt; wrong = rep-wrong n ws f y h.right g.wrong }
   rep n ws (Ok f) (Ok word) h g = elim (split (is_count f && is_width (f.word.value * word.width))) [

@@ -1,5 +1,5 @@
 -- The answers of the public calls, from those of the functions that go over a tree.
-use Rattle.std.proofs.Common.{◌≡◌, ℕ, max, arith, ◌≤◌, Bool, true, false, ap, ◌∙◌, sym, subst, Ok, Err}
+use Rattle.std.proofs.Common.{◌≡◌, ℕ, max, arith, ◌≤◌, Bool, true, false, ap, ◌∙◌, sym, subst, refl, Ok, Err, None}
 use Rattle.lv_ast.specs.declared.expr.Path.{Path}
 use Rattle.lv_ast.specs.declared.expr.Expr.{Expr}
 use Rattle.lv_source.specs.Names.{Names, Here}
@@ -7,9 +7,10 @@ use Rattle.lv_source.specs.Meaning.{own_width}
 use Rattle.lv_const.specs.declared.own.Own.{Own}
 use Rattle.lv_const.specs.declared.full.Full.{Full}
 use Rattle.lv_const.specs.declared.error.ConstError.{ConstError}
-use Rattle.lv_source.specs.Sites.{Value, walk}
+use Rattle.lv_source.specs.Sites.{Value, walk, is_absent}
 use Rattle.lv_const.specs.Answers.{Told, Divides, HasOwn, HasNoOwn, HasReached, HasNoReached}
 use Rattle.lv_const.specs.Public.{IsOwnAnswer, IsValueAnswer}
+use Rattle.lv_const.proofs.Told.{told-all}
 use Rattle.lv_const.proofs.WalkReads.{walk-reads}
 
 same-width : (names : Names) (x : Expr) → (walk names x).shown.reading.meaning.width ≡ own_width names x
@@ -37,7 +38,8 @@ module _ (here : Here) (x : Expr) where
       some = h.some;
       most = h.most;
       constant = sym (ap (λ r. r.constant) (walk-reads here.names x)) ∙ h.constant;
-      sound = h.sound;
+      sound = λ fixed W T. (h.sound fixed W T).sound;
+      counted = λ W T. (h.sound None W T).counted refl;
     };
     wrong = tt;
   }
@@ -66,6 +68,7 @@ module _ (here : Here) (x : Expr) where
     right = tt;
     wrong = record {
       told = λ fixed. subst (λ n. Told here.early ((walk here.names x).sites Value fixed n T) y)
-          (ap (λ n. max n W) (same-width here.names x) ∙ turned (own_width here.names x) W) (h.told fixed);
+          (ap (λ n. max n W) (same-width here.names x) ∙ turned (own_width here.names x) W)
+          (told-all here.early (is_absent fixed) _ y (h.told fixed));
     };
   }

@@ -8,7 +8,7 @@ use Rattle.lv_bits.proofs.Fits.{unary_lt, binary_lt, extended_lt}
 use Rattle.lv_ast.specs.declared.expr.Expr.TheOpen.{Expr-F}
 use Rattle.lv_source.specs.Names.{Names, Valuation}
 use Rattle.lv_source.specs.Values.{Meaning, own_value, quotient, remainder, nowhere}
-use Rattle.lv_source.specs.Sites.{Site, Walk, WalkStep, Shown, Step, Value, walk_step, below_sites, node_shown, first_place, first_of}
+use Rattle.lv_source.specs.Sites.{Site, Walk, WalkStep, Shown, Step, Value, walk_step, below_sites, node_shown, first_place, first_of, is_absent}
 use Rattle.lv_const.specs.declared.own.Own.{Own}
 use Rattle.lv_const.specs.declared.full.Full.{Full}
 use Rattle.lv_const.specs.declared.full.Reach.{Reach}
@@ -16,11 +16,11 @@ use Rattle.lv_const.specs.declared.pair.Pair.{Pair}
 use Rattle.lv_const.specs.declared.error.ConstError.{ConstError}
 use Rattle.lv_const.specs.declared.error.ConstError.TheVariants as x
 use Rattle.lv_source.specs.NodeRules.{zero_divisor}
-use Rattle.lv_const.specs.Answers.{Told, Divides, HasOwn, HasNoOwn, HasFull, HasNoFull, IsFull, HasValue, HasReached, HasNoReached, IsReached, HasPlain, IsPlain, HasPair, HasNoPair, IsPair, own_of_walk, pair_width, pair_signed, sites_at, read_role}
+use Rattle.lv_const.specs.Answers.{ToldOf, Divides, HasOwn, HasNoOwn, HasFull, HasNoFull, IsFull, HasValue, HasReached, HasNoReached, IsReached, HasPlain, IsPlain, HasPair, HasNoPair, IsPair, own_of_walk, pair_width, pair_signed, sites_at, read_role}
 use Rattle.lv_const.specs.Joins.{Valued, Paired, alone, wide, typed, spread, held, placed, paired, greater, unary_kept, unary_bit, shifted, logical, arithmetic, compared, divided, remains, chosen, cast_full}
 use Rattle.lv_const.proofs.Numbers.{split}
 use Rattle.lv_const.proofs.Division.{quotient_lt, remainder_lt}
-use Rattle.lv_const.proofs.Told.{divides-node, divides-both, told-below, told-first, told-second, told-zero}
+use Rattle.lv_const.proofs.Told.{divides-node, divides-both, told-below, told-first, told-second, told-too, told-zero}
 use Rattle.lv_const.proofs.Owns as owns
 use Rattle.lv_const.proofs.Owns.{site_of, width_at, signed_at}
 
@@ -78,8 +78,8 @@ module _ (early : Path → Bool) where
 
   pub none-alone : (w : Walk) (joined : Bool) (y : ConstError) → HasNoReached early w joined alone y → HasNoFull early w joined y
   none-alone w joined y h = record {
-    told = λ fixed. subst (λ n. Told early (sites_at w joined fixed n (signed_at w)) y) (max-zero (width_at w))
-        (subst (λ b. Told early (sites_at w joined fixed (max (width_at w) 0) b) y) (and-true (signed_at w)) (h.told fixed));
+    told = λ fixed. subst (λ n. ToldOf (is_absent fixed) early (sites_at w joined fixed n (signed_at w)) y) (max-zero (width_at w))
+        (subst (λ b. ToldOf (is_absent fixed) early (sites_at w joined fixed (max (width_at w) 0) b) y) (and-true (signed_at w)) (h.told fixed));
   }
 
   pub is-full : (w : Walk) (joined : Bool) (r : Valued) → IsReached early w joined alone r → IsFull early w joined r
@@ -173,18 +173,18 @@ module _ (early : Path → Bool) (a b : Walk) (r : Reach) (o : Own) (h : HasOwn 
   second-reached f g = (g.width ∙ second-width, g.signed ∙ second-signed)
 
   pub second-told : (y : ConstError) → HasNoReached early b false (spread r o) y → (fixed : Option ℕ) →
-      Told early (b.sites Value fixed (pair_width a b r) (pair_signed a b r)) y
-  second-told y g fixed = subst (λ n. Told early (b.sites Value fixed n (pair_signed a b r)) y) second-width
-      (subst (λ c. Told early (b.sites Value fixed (max (width_at b) (max o.width r.least)) c) y) second-signed (g.told fixed))
+      ToldOf (is_absent fixed) early (b.sites Value fixed (pair_width a b r) (pair_signed a b r)) y
+  second-told y g fixed = subst (λ n. ToldOf (is_absent fixed) early (b.sites Value fixed n (pair_signed a b r)) y) second-width
+      (subst (λ c. ToldOf (is_absent fixed) early (b.sites Value fixed (max (width_at b) (max o.width r.least)) c) y) second-signed (g.told fixed))
 
   held-width : (f : Full) → HasReached early b false (spread r o) f → max (width_at a) f.word.width ≡ f.word.width
   held-width f g = let e : f.word.width ≡ pair_width a b r = (second-reached f g).0 in omega (arith, e)
 
   pub first-told : (f : Full) (y : ConstError) → HasReached early b false (spread r o) f → HasNoReached early a false (held f) y → (fixed : Option ℕ) →
-      Told early (a.sites Value fixed (pair_width a b r) (pair_signed a b r)) y
+      ToldOf (is_absent fixed) early (a.sites Value fixed (pair_width a b r) (pair_signed a b r)) y
   first-told f y g k fixed =
-      subst (λ n. Told early (a.sites Value fixed n (pair_signed a b r)) y) (held-width f g ∙ (second-reached f g).0)
-      (subst (λ c. Told early (a.sites Value fixed (max (width_at a) f.word.width) c) y) (second-reached f g).1 (k.told fixed))
+      subst (λ n. ToldOf (is_absent fixed) early (a.sites Value fixed n (pair_signed a b r)) y) (held-width f g ∙ (second-reached f g).0)
+      (subst (λ c. ToldOf (is_absent fixed) early (a.sites Value fixed (max (width_at a) f.word.width) c) y) (second-reached f g).1 (k.told fixed))
 
   pub both-reached : (f e : Full) → HasReached early b false (spread r o) f → HasReached early a false (held f) e →
       HasPair early a b r (record { left = e.word; right = f.word; signed = e.signed })
@@ -216,22 +216,23 @@ module _ (early : Path → Bool) where
   }
 
   no-pair_first : (a b : Walk) (r : Reach) (y : ConstError) →
-      ((fixed : Option ℕ) → Told early (a.sites Value fixed (pair_width a b r) (pair_signed a b r)) y) → HasNoPair early a b r y
+      ((fixed : Option ℕ) → ToldOf (is_absent fixed) early (a.sites Value fixed (pair_width a b r) (pair_signed a b r)) y) → HasNoPair early a b r y
   no-pair_first a b r y h = record { told = λ fixed. told-first early _ _ y (h fixed) }
 
   no-pair_second : (a b : Walk) (r : Reach) (y : ConstError) →
-      ((fixed : Option ℕ) → Told early (b.sites Value fixed (pair_width a b r) (pair_signed a b r)) y) → HasNoPair early a b r y
+      ((fixed : Option ℕ) → ToldOf (is_absent fixed) early (b.sites Value fixed (pair_width a b r) (pair_signed a b r)) y) → HasNoPair early a b r y
   no-pair_second a b r y h = record { told = λ fixed. told-second early _ _ y (h fixed) }
 
-  swap-told : (a b c : Walk) (r : Reach) (y : ConstError) → ((fixed : Option ℕ) → Told early (c.sites Value fixed (pair_width b a r) (pair_signed b a r)) y) →
+  swap-told : (a b c : Walk) (r : Reach) (y : ConstError) → ((fixed : Option ℕ) → ToldOf (is_absent fixed) early (c.sites Value fixed (pair_width b a r) (pair_signed b a r)) y) →
       (fixed : Option ℕ) →
-      Told early (c.sites Value fixed (pair_width a b r) (pair_signed a b r)) y
-  swap-told a b c r y h fixed = subst (λ n. Told early (c.sites Value fixed n (pair_signed a b r)) y) (pair-swap_width a b r)
-      (subst (λ d. Told early (c.sites Value fixed (pair_width b a r) d) y) (pair-swap_signed a b r) (h fixed))
+      ToldOf (is_absent fixed) early (c.sites Value fixed (pair_width a b r) (pair_signed a b r)) y
+  swap-told a b c r y h fixed = subst (λ n. ToldOf (is_absent fixed) early (c.sites Value fixed n (pair_signed a b r)) y) (pair-swap_width a b r)
+      (subst (λ d. ToldOf (is_absent fixed) early (c.sites Value fixed (pair_width b a r) d) y) (pair-swap_signed a b r) (h fixed))
 
   -- the left one is the lighter, and looked at first
   pub left-wrong : (a b : Walk) (r : Reach) (y : ConstError) → HasNoOwn early a false y → IsPair early a b r (Err y)
-  left-wrong a b r y h = record { right = tt; wrong = no-pair_first a b r y (λ fixed. h.told fixed (pair_width a b r) (pair_signed a b r)) }
+  left-wrong a b r y h = record { right = tt; wrong = no-pair_first a b r y (λ fixed. told-too early (is_absent fixed) _ y
+      (h.told fixed (pair_width a b r) (pair_signed a b r))) }
 
   pub left-right_wrong : (a b : Walk) (r : Reach) (o : Own) (y : ConstError) → HasOwn early a false o → HasNoReached early b false (spread r o) y →
       IsPair early a b r (Err y)
@@ -244,7 +245,8 @@ module _ (early : Path → Bool) where
 
   -- the right one is
   pub right-wrong : (a b : Walk) (r : Reach) (y : ConstError) → HasNoOwn early b false y → IsPair early a b r (Err y)
-  right-wrong a b r y h = record { right = tt; wrong = no-pair_second a b r y (λ fixed. h.told fixed (pair_width a b r) (pair_signed a b r)) }
+  right-wrong a b r y h = record { right = tt; wrong = no-pair_second a b r y (λ fixed. told-too early (is_absent fixed) _ y
+      (h.told fixed (pair_width a b r) (pair_signed a b r))) }
 
   pub right-left_wrong : (a b : Walk) (r : Reach) (o : Own) (y : ConstError) → HasOwn early b false o → HasNoReached early a false (spread r o) y →
       IsPair early a b r (Err y)
@@ -266,9 +268,9 @@ module _ (early : Path → Bool) where
 
 module _ (early : Path → Bool) where
   -- behind the sites of a test
-  behind : (c a b : Walk) (fixed : Option ℕ) (V W : ℕ) (S T : Bool) (y : ConstError) → Told early (a.sites Value fixed W T ++ b.sites Value fixed W T) y →
-      Told early ((c.sites Value fixed V S ++ a.sites Value fixed W T) ++ b.sites Value fixed W T) y
-  behind c a b fixed V W S T y h = subst (λ ss. Told early ss y)
+  behind : (c a b : Walk) (fixed : Option ℕ) (V W : ℕ) (S T : Bool) (y : ConstError) → ToldOf (is_absent fixed) early (a.sites Value fixed W T ++ b.sites Value fixed W T) y →
+      ToldOf (is_absent fixed) early ((c.sites Value fixed V S ++ a.sites Value fixed W T) ++ b.sites Value fixed W T) y
+  behind c a b fixed V W S T y h = subst (λ ss. ToldOf (is_absent fixed) early ss y)
       (sym (append_assoc (c.sites Value fixed V S) (a.sites Value fixed W T) (b.sites Value fixed W T))) (told-second early _ _ y h)
 
 module _ (early : Path → Bool) (names : Names) (joined : Bool) where
@@ -299,12 +301,12 @@ module _ (early : Path → Bool) (names : Names) (joined : Bool) where
   }
 
   pub no-plain : (x : Expr-F Walk WalkStep) (y : ConstError) →
-      ((fixed : Option ℕ) (W : ℕ) (T : Bool) → Told early (below_sites x (read_role joined) fixed W T) y) →
+      ((fixed : Option ℕ) (W : ℕ) (T : Bool) → ToldOf (is_absent fixed) early (below_sites x (read_role joined) fixed W T) y) →
       IsPlain early (walk_step names x) joined (Err y)
   no-plain x y h = record { right = tt; wrong = owns.hasnt early names x joined y h }
 
   no-reached : (x : Expr-F Walk WalkStep) (r : Reach) (y : ConstError) →
-      ((fixed : Option ℕ) → Told early (below_sites x (read_role joined) fixed (max (width_at (walk_step names x)) r.least)
+      ((fixed : Option ℕ) → ToldOf (is_absent fixed) early (below_sites x (read_role joined) fixed (max (width_at (walk_step names x)) r.least)
       (if r.fixed then r.signed else signed_at (walk_step names x) && r.signed)) y) →
       IsReached early (walk_step names x) joined r (Err y)
   no-reached x r y h = record { right = tt; wrong = record { told = λ fixed. told-below early (site_of names x (read_role joined) fixed _ _) _ y (h fixed) } }
@@ -431,11 +433,11 @@ module _ (early : Path → Bool) (names : Names) (joined : Bool) where
   alone-signed a b = and-true (signed_at a && signed_at b)
 
   greater-told : (a b : Walk) (y : ConstError) → HasNoPair early a b alone y → (fixed : Option ℕ) →
-      Told early (a.sites Value fixed (max (width_at a) (width_at b)) (signed_at a && signed_at b) ++ b.sites Value fixed (max (width_at a) (width_at b))
+      ToldOf (is_absent fixed) early (a.sites Value fixed (max (width_at a) (width_at b)) (signed_at a && signed_at b) ++ b.sites Value fixed (max (width_at a) (width_at b))
       (signed_at a && signed_at b)) y
-  greater-told a b y h fixed = subst (λ n. Told early (a.sites Value fixed n (signed_at a && signed_at b) ++ b.sites Value fixed n
+  greater-told a b y h fixed = subst (λ n. ToldOf (is_absent fixed) early (a.sites Value fixed n (signed_at a && signed_at b) ++ b.sites Value fixed n
       (signed_at a && signed_at b)) y) (alone-width a b)
-      (subst (λ c. Told early (a.sites Value fixed (pair_width a b alone) c ++ b.sites Value fixed (pair_width a b alone) c) y) (alone-signed a b)
+      (subst (λ c. ToldOf (is_absent fixed) early (a.sites Value fixed (pair_width a b alone) c ++ b.sites Value fixed (pair_width a b alone) c) y) (alone-signed a b)
       (h.told fixed))
 
   greater-value : (a b c : Walk) (p : Pair) (n : ℕ) → HasPair early a b alone p → HasValue c p.left.width p.signed n →

@@ -15,12 +15,12 @@ use Rattle.lv_source.specs.Legal.{Kind, UnknownName, NotConstant, ClockUse}
 use Rattle.lv_source.specs.Legal as kind
 use Rattle.lv_const.specs.declared.error.ConstError.{ConstError}
 use Rattle.lv_const.specs.declared.error.ConstError.TheVariants as x
-use Rattle.lv_const.specs.Faults.{no_value, unfixed, form_faults, told_faults, all_faults}
+use Rattle.lv_const.specs.Faults.{no_value, unfixed, form_faults, told_faults, all_faults, counted_zero, faults_of}
 use Rattle.lv_const.specs.Answers.{Told, Sound, Divides}
 use Rattle.lv_const.specs.Public.{IsOwnOf, IsOwnRefusal, IsValueOf, IsValueRefusal}
 use Rattle.lv_const.specs.Refusals.{IsUnnamed, IsFault, IsFormed, IsDivided}
 use Rattle.lv_const.specs.Refusals as r
-use Rattle.lv_const.proofs.Told.{here}
+use Rattle.lv_const.proofs.Told.{here, first-empty, second-empty, told-too}
 use Rattle.lv_const.proofs.Stands.{Stands, walk-stands}
 
 -- ---- what a list of lists contains
@@ -107,14 +107,14 @@ module _ (early : Path → Bool) (s : Site) (p : ℕ) where
     | inr k ↦ let e : false ≡ true = ap is_range (listed x.ZeroDivisor (zero_divisor s) (x.Range p) k).same in cc
   ]
 
-  of-divisors : Contains (all_faults early s) (x.ZeroDivisor p) → Contains (zero_divisor s) p
-  of-divisors h = elim (Contains-append_cases (told_faults early s) (map x.ZeroDivisor (zero_divisor s)) (x.ZeroDivisor p) h) [
+  of-divisors : (zs : List ℕ) → Contains (told_faults early s ++ map x.ZeroDivisor zs) (x.ZeroDivisor p) → Contains zs p
+  of-divisors zs h = elim (Contains-append_cases (told_faults early s) (map x.ZeroDivisor zs) (x.ZeroDivisor p) h) [
     | inl k ↦ elim (Contains-append_cases (map x.NoValue (no_value early s)) (map x.Range (out_of_range s)) (x.ZeroDivisor p) k) [
       | inl m ↦ let e : true ≡ false = ap is_name (listed x.NoValue (no_value early s) (x.ZeroDivisor p) m).same in cc
       | inr m ↦ let e : true ≡ false = ap is_range (listed x.Range (out_of_range s) (x.ZeroDivisor p) m).same in cc
     ]
-    | inr k ↦ let q : Listed x.ZeroDivisor (zero_divisor s) (x.ZeroDivisor p) = listed x.ZeroDivisor (zero_divisor s) (x.ZeroDivisor p) k in
-        subst (Contains (zero_divisor s)) (ap place_or q.same) q.among
+    | inr k ↦ let q : Listed x.ZeroDivisor zs (x.ZeroDivisor p) = listed x.ZeroDivisor zs (x.ZeroDivisor p) k in
+        subst (Contains zs) (ap place_or q.same) q.among
   ]
 
 -- ---- a name without a value
@@ -198,17 +198,9 @@ told-fault at sites (x.Range p) fixed h =
     r.range (placed at sites fixed p kind.Range q.one q.among (of-ranges at.early q.one p q.holds))
 told-fault at sites (x.ZeroDivisor p) fixed h =
     let q : Found (all_faults at.early) sites (x.ZeroDivisor p) = found (all_faults at.early) sites (x.ZeroDivisor p) h.found in
-    r.zero (placed at sites fixed p kind.ZeroDivisor q.one q.among (of-divisors at.early q.one p q.holds))
+    r.zero (placed at sites fixed p kind.ZeroDivisor q.one q.among (of-divisors at.early q.one p (zero_divisor q.one) q.holds))
 
 -- ---- no faults
-
-first-empty : {X : Type 0} (xs ys : List X) → xs ++ ys ≡ [] → xs ≡ []
-first-empty [] ys h = refl
-first-empty (x ∷ xs) ys h = cc
-
-second-empty : {X : Type 0} (xs ys : List X) → xs ++ ys ≡ [] → ys ≡ []
-second-empty [] ys h = h
-second-empty (x ∷ xs) ys h = cc
 
 all-empty : (at : Here) (f : Site → List ℕ) (g : Spot → List ℕ) (ss : List Site) → ((s : Site) → f s ≡ [] → g (spot at s) ≡ []) → flat_map f ss ≡ [] →
     flat_map g (spots at ss) ≡ []
@@ -307,7 +299,15 @@ divides-formed at sites h = record { zero = all-empty at zero_divisor (site_faul
 
 pub own-refused : (at : Here) (x : Expr) (y : ConstError) (first W : ℕ) (T : Bool) → IsOwnRefusal at x y →
     IsFault at (spots at ((walk at.names x).sites Value (Some first) W T)) y
-own-refused at x y first W T h = told-fault at ((walk at.names x).sites Value (Some first) W T) y (walk-stands at.names x first W T) (h.told (Some first) W T)
+own-refused at x y first W T h = told-fault at ((walk at.names x).sites Value (Some first) W T) y (walk-stands at.names x first W T)
+    (told-too at.early true ((walk at.names x).sites Value (Some first) W T) y (h.told (Some first) W T))
+
+pub own-counted : (at : Here) (z : Expr) (place W : ℕ) (T : Bool) → IsOwnRefusal at z (x.ZeroDivisor place) →
+    Contains (flat_map counted_zero ((walk at.names z).sites Value None W T)) place
+own-counted at z place W T h =
+    let sites : List Site = (walk at.names z).sites Value None W T in
+    let q : Found (faults_of false at.early) sites (x.ZeroDivisor place) = found (faults_of false at.early) sites (x.ZeroDivisor place) (h.told None W T).found in
+    gathered counted_zero sites q.one place q.among (of-divisors at.early q.one place (counted_zero q.one) q.holds)
 
 pub value-refused : (at : Here) (x : Expr) (y : ConstError) (first W : ℕ) (T : Bool) → IsValueRefusal at x W T y →
     IsFault at (spots at ((walk at.names x).sites Value (Some first) (max W (own_width at.names x)) T)) y

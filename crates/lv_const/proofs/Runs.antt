@@ -136,7 +136,7 @@ agree : (b : Bounds) → high b ≤ 65535 → (z : ℤ) (m n : ℕ) → IsNear z
 agree b h z m zero i = refl
 agree b h z m (suc n) i = two (near_place b m) (bit_place b z) _ _ (sym (head b h z m n i)) (agree b h (z +ℤ pos 1) (m + 1) n (next z m n i))
 
-map-reverse : {A B : Type 0} (f : A → B) (xs : List A) → map f (reverse xs) ≡ reverse (map f xs)
+pub map-reverse : {A B : Type 0} (f : A → B) (xs : List A) → map f (reverse xs) ≡ reverse (map f xs)
 map-reverse f [] = refl
 map-reverse f (x ∷ xs) = ap (map f) (reverse-append (x ∷ []) xs) ∙
     (map-append f (reverse xs) (x ∷ []) ∙ (ap (λ ys. ys ++ f x ∷ []) (map-reverse f xs) ∙ sym (reverse-append (f x ∷ []) (map f xs))))

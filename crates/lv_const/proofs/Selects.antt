@@ -12,7 +12,7 @@ use Rattle.lv_source.specs.Names.{Names, Bounds, Valuation}
 use Rattle.lv_source.specs.Values.{Meaning, own_value, number_of, nowhere}
 use Rattle.lv_source.specs.Places.{falls, rising, bit_place, bits_from, read_bits, count_of, lowest}
 use Rattle.lv_source.specs.Meaning.{Choice, meant, parts_of}
-use Rattle.lv_source.specs.Sites.{Value, Walk, WalkStep, walk_step, below_sites, step_sites, step_shown, step_choice, own_sites, fixed_sites, first_place}
+use Rattle.lv_source.specs.Sites.{Value, Walk, WalkStep, walk_step, below_sites, step_sites, step_shown, step_choice, own_sites, fixed_sites, first_place, is_absent}
 use Rattle.lv_source.specs.NodeRules.{is_width, is_bound, is_width_number, is_in_order, is_good_step, number}
 use Rattle.lv_const.specs.declared.constant.Const.{Const}
 use Rattle.lv_const.specs.declared.own.Own.{Own}
@@ -21,11 +21,11 @@ use Rattle.lv_const.specs.declared.error.ConstError.{ConstError}
 use Rattle.lv_const.specs.declared.error.ConstError.TheVariants as x
 use Rattle.lv_const.specs.Constants.{bounds_of, constant_of}
 use Rattle.lv_const.specs.Faults.{form_faults}
-use Rattle.lv_const.specs.Answers.{Told, Sound, Divides, HasOwn, HasNoOwn, IsOwn, HasFull, HasNoFull, IsFull, HasPlain, IsPlain, read_role}
+use Rattle.lv_const.specs.Answers.{ToldOf, SoundAt, Divides, HasOwn, HasNone, IsOwn, HasFull, HasNoFull, IsFull, HasPlain, IsPlain, read_role}
 use Rattle.lv_const.specs.Joins.{Owned, Valued}
 use Rattle.lv_const.specs.Picks.{bit_own, bits_own, part_own, run_own, upward, downward, bit_full, part_full, up_full, down_full, is_place, is_part, is_run, number_at, bits_at}
 use Rattle.lv_const.proofs.Numbers.{split}
-use Rattle.lv_const.proofs.Told.{sound-none, sound-node, sound-both, told-range, told-below, told-first, told-second, width_in, divides-none, divides-both}
+use Rattle.lv_const.proofs.Told.{formed-none, formed-node, formed-both, formed-count, told-too, told-range, told-below, told-first, told-second, width_in, divides-none, divides-both}
 use Rattle.lv_const.proofs.Owns.{site_of, width_at, signed_at}
 use Rattle.lv_const.proofs.Leaves.{length-rising, and-left, and-right, or-true, undriven, unwritten, is-width_some, is-width_most}
 use Rattle.lv_const.proofs.Reached.{plain-node, full-own_value, full-divided}
@@ -78,6 +78,15 @@ run-width true w a = positive-too a (not (true && not (nat_lt a (2 ^ (w - 1)))))
 ]
 
 module _ (early : Path → Bool) where
+  -- a bound or a width, which is constant
+  counted : {fixed : Option ℕ} (w : Walk) (f : Full) → HasFull early w false f → SoundAt fixed early (fixed_sites w)
+  counted w f h = formed-count early (fixed_sites w) (first_place w.shown)
+      (h.own.sound (Some (first_place w.shown)) w.shown.reading.meaning.width w.shown.reading.meaning.signed)
+      (full-divided early w false f h false (Some (first_place w.shown)))
+
+  uncounted : (each : Bool) (w : Walk) (y : ConstError) → HasNoFull early w false y → ToldOf each early (fixed_sites w) y
+  uncounted each w y h = told-too early each (fixed_sites w) y (h.told (Some (first_place w.shown)))
+
   is-bound : (w : Walk) (f : Full) → HasFull early w false f → is_place f ≡ is_bound (number w.shown)
   is-bound w f h = place-bound f.signed f.word.width f.word.value ∙ ap is_bound (same-number early w f h nowhere)
 
@@ -130,7 +139,7 @@ module _ (early : Path → Bool) (names : Names) (path : Path) (c : Const)
     some : 1 ≤ count_at s
     most : count_at s ≤ 128
     constant : list_all (λ r. r.constant) (parts_of (chosen_step s)) ≡ true
-    sound : (fixed : Option ℕ) → Sound early (step_sites false fixed s)
+    sound : (fixed : Option ℕ) → SoundAt fixed early (step_sites false fixed s)
 
   faultless : (joined : Bool) (fixed : Option ℕ) (W : ℕ) (T : Bool) → IsSound joined →
       form_faults early (site_of names (Expr-F.Name path (s ∷ [])) (read_role joined) fixed W T) ≡ []
@@ -154,26 +163,27 @@ module _ (early : Path → Bool) (names : Names) (path : Path) (c : Const)
     some = h.some;
     most = h.most;
     constant = one-constant h.constant;
-    sound = λ fixed W T. sound-node early (site_of names (Expr-F.Name path (s ∷ [])) (read_role joined) fixed W T)
+    sound = λ fixed W T. formed-node early (site_of names (Expr-F.Name path (s ∷ [])) (read_role joined) fixed W T)
         (below_sites (Expr-F.Name path (s ∷ [])) (read_role joined) fixed W T)
         (faultless joined fixed W T h)
-        (subst (Sound early) (sym (one-sites joined fixed W T)) (sound-both early (step_sites false fixed s) [] (h.sound fixed) (sound-none early)));
+        (subst (SoundAt fixed early) (sym (one-sites joined fixed W T)) (formed-both early (step_sites false fixed s) [] (h.sound fixed) (formed-none early)));
   }
 
-  pick-bad : (joined : Bool) → is_good_step (bounds_of c) (step_shown s) ≡ false →
-      HasNoOwn early (walk_step names (Expr-F.Name path (s ∷ []))) joined (x.Range path.place)
+  pick-bad : {valued : Bool} (joined : Bool) → is_good_step (bounds_of c) (step_shown s) ≡ false →
+      HasNone valued early (walk_step names (Expr-F.Name path (s ∷ []))) joined (x.Range path.place)
   pick-bad joined h = record {
     told = λ fixed W T. told-range early (site_of names (Expr-F.Name path (s ∷ [])) (read_role joined) fixed W T)
         (below_sites (Expr-F.Name path (s ∷ [])) (read_role joined) fixed W T)
         (rw known (rw h (or-true _)));
   }
 
-  pick-told : (joined : Bool) (y : ConstError) → ((fixed : Option ℕ) → Told early (step_sites false fixed s) y) →
-      HasNoOwn early (walk_step names (Expr-F.Name path (s ∷ []))) joined y
-  pick-told joined y h = record {
+  pick-told : {valued : Bool} (joined : Bool) (y : ConstError) →
+      ((fixed : Option ℕ) → ToldOf (valued && is_absent fixed) early (step_sites false fixed s) y) →
+      HasNone valued early (walk_step names (Expr-F.Name path (s ∷ []))) joined y
+  pick-told {valued} joined y h = record {
     told = λ fixed W T. told-below early (site_of names (Expr-F.Name path (s ∷ [])) (read_role joined) fixed W T)
         (below_sites (Expr-F.Name path (s ∷ [])) (read_role joined) fixed W T) y
-        (subst (λ ss. Told early ss y) (sym (one-sites joined fixed W T)) (told-first early (step_sites false fixed s) [] y (h fixed)));
+        (subst (λ ss. ToldOf (valued && is_absent fixed) early ss y) (sym (one-sites joined fixed W T)) (told-first early (step_sites false fixed s) [] y (h fixed)));
   }
 
 -- ---- own widths
@@ -210,8 +220,7 @@ module _ (early : Path → Bool) (names : Names) (path : Path) (c : Const)
         some = is-width_some _ w;
         most = is-width_most _ w;
         constant = two-true _ _ h.own.constant k.own.constant;
-        sound = λ fixed. sound-both early (fixed_sites a) (fixed_sites b) (h.own.sound (Some (first_place a.shown)) (width_at a) (signed_at a))
-            (k.own.sound (Some (first_place b.shown)) (width_at b) (signed_at b));
+        sound = λ fixed. formed-both early (fixed_sites a) (fixed_sites b) (counted early a f h) (counted early b g k);
       }
 
   part-count : (a b : Walk) (f g : Full) → HasFull early a false f → HasFull early b false g →
@@ -219,18 +228,18 @@ module _ (early : Path → Bool) (names : Names) (path : Path) (c : Const)
   part-count a b f g h k = sym (ap (λ n. max n g.word.value - min n g.word.value + 1) (same-value early a f h) ∙
       ap (λ n. max (own_value a.shown.reading.meaning nowhere) n - min (own_value a.shown.reading.meaning nowhere) n + 1) (same-value early b g k))
 
-  part-told_first : (a b : Walk) (y : ConstError) → HasNoFull early a false y →
-      HasNoOwn early (walk_step names (Expr-F.Name path (Select-F.Part a b ∷ []))) joined y
-  part-told_first a b y h = pick-told early names path c known ahead (Select-F.Part a b) joined y
-      (λ fixed. told-first early (fixed_sites a) (fixed_sites b) y (h.told (Some (first_place a.shown))))
+  part-told_first : {valued : Bool} (a b : Walk) (y : ConstError) → HasNoFull early a false y →
+      HasNone valued early (walk_step names (Expr-F.Name path (Select-F.Part a b ∷ []))) joined y
+  part-told_first {valued} a b y h = pick-told early names path c known ahead (Select-F.Part a b) joined y
+      (λ fixed. told-first early (fixed_sites a) (fixed_sites b) y (uncounted early (valued && is_absent fixed) a y h))
 
-  part-told_second : (a b : Walk) (y : ConstError) → HasNoFull early b false y →
-      HasNoOwn early (walk_step names (Expr-F.Name path (Select-F.Part a b ∷ []))) joined y
-  part-told_second a b y h = pick-told early names path c known ahead (Select-F.Part a b) joined y
-      (λ fixed. told-second early (fixed_sites a) (fixed_sites b) y (h.told (Some (first_place b.shown))))
+  part-told_second : {valued : Bool} (a b : Walk) (y : ConstError) → HasNoFull early b false y →
+      HasNone valued early (walk_step names (Expr-F.Name path (Select-F.Part a b ∷ []))) joined y
+  part-told_second {valued} a b y h = pick-told early names path c known ahead (Select-F.Part a b) joined y
+      (λ fixed. told-second early (fixed_sites a) (fixed_sites b) y (uncounted early (valued && is_absent fixed) b y h))
 
-  part-bad : (a b : Walk) (f g : Full) → HasFull early a false f → HasFull early b false g → is_part (bounds_of c) f g ≡ false →
-      HasNoOwn early (walk_step names (Expr-F.Name path (Select-F.Part a b ∷ []))) joined (x.Range path.place)
+  part-bad : {valued : Bool} (a b : Walk) (f g : Full) → HasFull early a false f → HasFull early b false g → is_part (bounds_of c) f g ≡ false →
+      HasNone valued early (walk_step names (Expr-F.Name path (Select-F.Part a b ∷ []))) joined (x.Range path.place)
   part-bad a b f g h k e = pick-bad early names path c known ahead (Select-F.Part a b) joined (sym (is-good early (bounds_of c) a b f g h k) ∙ e)
 
   pub own-part : (a b : Walk) (r q : Valued) → IsFull early a false r → IsFull early b false q →
@@ -283,22 +292,23 @@ module _ (early : Path → Bool) (names : Names) (path : Path) (c : Const)
     some = subst (λ n. 1 ≤ n) (run-count up a b f k) (is-width_some _ w);
     most = subst (λ n. n ≤ 128) (run-count up a b f k) (is-width_most _ w);
     constant = run-constant up a b h.constant k.own.constant;
-    sound = λ fixed. subst (Sound early) (sym (run-sites up a b fixed))
-        (sound-both early _ (fixed_sites b) (h.sound fixed (width_at a) (signed_at a)) (k.own.sound (Some (first_place b.shown)) (width_at b) (signed_at b)));
+    sound = λ fixed. subst (SoundAt fixed early) (sym (run-sites up a b fixed))
+        (formed-both early _ (fixed_sites b) (h.sound fixed (width_at a) (signed_at a)) (counted early b f k));
   }
 
-  run-told_first : (up : Bool) (a b : Walk) (y : ConstError) → ((fixed : Option ℕ) → Told early (own_sites Value fixed a) y) →
-      HasNoOwn early (walk_step names (Expr-F.Name path (run_step up a b ∷ []))) joined y
-  run-told_first up a b y h = pick-told early names path c known ahead (run_step up a b) joined y
-      (λ fixed. subst (λ ss. Told early ss y) (sym (run-sites up a b fixed)) (told-first early _ (fixed_sites b) y (h fixed)))
+  run-told_first : {valued : Bool} (up : Bool) (a b : Walk) (y : ConstError) → ((fixed : Option ℕ) → ToldOf (valued && is_absent fixed) early (own_sites Value fixed a) y) →
+      HasNone valued early (walk_step names (Expr-F.Name path (run_step up a b ∷ []))) joined y
+  run-told_first {valued} up a b y h = pick-told early names path c known ahead (run_step up a b) joined y
+      (λ fixed. subst (λ ss. ToldOf (valued && is_absent fixed) early ss y) (sym (run-sites up a b fixed)) (told-first early _ (fixed_sites b) y (h fixed)))
 
-  run-told_second : (up : Bool) (a b : Walk) (y : ConstError) → HasNoFull early b false y →
-      HasNoOwn early (walk_step names (Expr-F.Name path (run_step up a b ∷ []))) joined y
-  run-told_second up a b y h = pick-told early names path c known ahead (run_step up a b) joined y
-      (λ fixed. subst (λ ss. Told early ss y) (sym (run-sites up a b fixed)) (told-second early _ (fixed_sites b) y (h.told (Some (first_place b.shown)))))
+  run-told_second : {valued : Bool} (up : Bool) (a b : Walk) (y : ConstError) → HasNoFull early b false y →
+      HasNone valued early (walk_step names (Expr-F.Name path (run_step up a b ∷ []))) joined y
+  run-told_second {valued} up a b y h = pick-told early names path c known ahead (run_step up a b) joined y
+      (λ fixed. subst (λ ss. ToldOf (valued && is_absent fixed) early ss y) (sym (run-sites up a b fixed)) (told-second early _ (fixed_sites b) y
+      (uncounted early (valued && is_absent fixed) b y h)))
 
-  run-bad : (up : Bool) (a b : Walk) (f : Full) → HasFull early b false f → is_run f ≡ false →
-      HasNoOwn early (walk_step names (Expr-F.Name path (run_step up a b ∷ []))) joined (x.Range path.place)
+  run-bad : {valued : Bool} (up : Bool) (a b : Walk) (f : Full) → HasFull early b false f → is_run f ≡ false →
+      HasNone valued early (walk_step names (Expr-F.Name path (run_step up a b ∷ []))) joined (x.Range path.place)
   run-bad up a b f k e = pick-bad early names path c known ahead (run_step up a b) joined (run-good up a b ∙ (sym (is-run early b f k) ∙ e))
 
   pub own-run : (up : Bool) (a b : Walk) (r : Owned) (q : Valued) → IsOwn early a false r → IsFull early b false q →

@@ -1,5 +1,5 @@
 -- What is answered of a constant expression where it stands.
-use Rattle.std.specs.Prelude.{◌+◌, ◌*◌, ◌∷◌, ◌++◌, length, map, max, ◌&&◌, ◌≡◌, ℕ, ◌≤◌, ◌<◌, ◌^◌, Bool, true, false, if◌then◌else◌, List, [], Option, Some, Contains, Result, IfOk, IfErr, flat_map}
+use Rattle.std.specs.Prelude.{◌+◌, ◌*◌, ◌∷◌, ◌++◌, length, map, max, ◌&&◌, ◌≡◌, ℕ, ◌≤◌, ◌<◌, ◌^◌, Bool, true, false, if◌then◌else◌, List, [], Option, Some, None, Contains, Result, IfOk, IfErr, flat_map}
 use Rattle.std.specs.List.{list_all}
 use Rattle.lv_bits.specs.Words.{Bits}
 use Rattle.lv_bits.specs.Values.{extended}
@@ -7,7 +7,7 @@ use Rattle.lv_ast.specs.declared.expr.Path.{Path}
 use Rattle.lv_ast.specs.declared.expr.Expr.TheOpen.{Expr-F}
 use Rattle.lv_source.specs.Names.{Names, Valuation}
 use Rattle.lv_source.specs.Values.{joined as joined_words}
-use Rattle.lv_source.specs.Sites.{Site, Role, Value, Joined, Walk, WalkStep, walk_step, own_sites}
+use Rattle.lv_source.specs.Sites.{Site, Role, Value, Joined, Walk, WalkStep, walk_step, own_sites, is_absent}
 use Rattle.lv_source.specs.NodeRules.{is_width, zero_divisor}
 use Rattle.lv_const.specs.declared.constant.Const.{Const}
 use Rattle.lv_const.specs.declared.error.ConstError.{ConstError}
@@ -17,7 +17,7 @@ use Rattle.lv_const.specs.declared.full.Full.{Full}
 use Rattle.lv_const.specs.declared.full.Reach.{Reach}
 use Rattle.lv_const.specs.declared.pair.Pair.{Pair}
 use Rattle.lv_const.specs.Constants.{constant_of}
-use Rattle.lv_const.specs.Faults.{form_faults, all_faults}
+use Rattle.lv_const.specs.Faults.{form_faults, counted_zero, faults_of}
 
 -- read, or joined by a concatenation or a replication
 abbrev pub read_role : Bool → Role
@@ -27,8 +27,16 @@ abbrev pub sites_at : Walk → Bool → Option ℕ → ℕ → Bool → List Sit
 sites_at w joined fixed W T = w.sites (read_role joined) fixed W T
 
 -- some fault is told of one of them, where these constants are declared before
-pub record Told (early : Path → Bool) (sites : List Site) (x : ConstError) : Type 0 where
-  pub found : Contains (flat_map (all_faults early) sites) x
+pub record ToldOf (each : Bool) (early : Path → Bool) (sites : List Site) (x : ConstError) : Type 0 where
+  pub found : Contains (flat_map (faults_of each early) sites) x
+
+-- of a value
+abbrev pub Told : (Path → Bool) → List Site → ConstError → Type 0
+Told early sites x = ToldOf true early sites x
+
+-- of an own width: no division by 0 outside of constant positions
+abbrev pub ToldOwn : (Path → Bool) → List Site → ConstError → Type 0
+ToldOwn early sites x = ToldOf false early sites x
 
 -- each name is a constant that is declared before, no division reads a signal, and nothing is out of range
 pub record Sound (early : Path → Bool) (sites : List Site) : Type 0 where
@@ -38,6 +46,15 @@ pub record Sound (early : Path → Bool) (sites : List Site) : Type 0 where
 pub record Divides (sites : List Site) : Type 0 where
   pub none : flat_map zero_divisor sites ≡ []
 
+-- no division by 0 in a constant position
+pub record Counted (sites : List Site) : Type 0 where
+  pub none : flat_map counted_zero sites ≡ []
+
+-- sound, and what is counted has a value where the expression itself stands in no constant position
+pub record SoundAt (fixed : Option ℕ) (early : Path → Bool) (sites : List Site) : Type 0 where
+  pub sound : Sound early sites
+  pub counted : fixed ≡ None → Counted sites
+
 -- its width and type, and that all in it is sound
 pub record HasOwn (early : Path → Bool) (w : Walk) (joined : Bool) (o : Own) : Type 0 where
   pub width : o.width ≡ w.shown.reading.meaning.width
@@ -45,11 +62,17 @@ pub record HasOwn (early : Path → Bool) (w : Walk) (joined : Bool) (o : Own) :
   pub some : 1 ≤ o.width
   pub most : o.width ≤ 128
   pub constant : w.shown.reading.constant ≡ true
-  pub sound : (fixed : Option ℕ) (W : ℕ) (T : Bool) → Sound early (sites_at w joined fixed W T)
+  pub sound : (fixed : Option ℕ) (W : ℕ) (T : Bool) → SoundAt fixed early (sites_at w joined fixed W T)
 
--- at whatever width and sign the expression is taken
-pub record HasNoOwn (early : Path → Bool) (w : Walk) (joined : Bool) (x : ConstError) : Type 0 where
-  pub told : (fixed : Option ℕ) (W : ℕ) (T : Bool) → Told early (sites_at w joined fixed W T) x
+-- at whatever width and sign the expression is taken: of its value, or of its own width
+pub record HasNone (valued : Bool) (early : Path → Bool) (w : Walk) (joined : Bool) (x : ConstError) : Type 0 where
+  pub told : (fixed : Option ℕ) (W : ℕ) (T : Bool) → ToldOf (valued && is_absent fixed) early (sites_at w joined fixed W T) x
+
+abbrev pub HasNoOwn : (Path → Bool) → Walk → Bool → ConstError → Type 0
+HasNoOwn early w joined x = HasNone false early w joined x
+
+abbrev pub HasNoPlain : (Path → Bool) → Walk → Bool → ConstError → Type 0
+HasNoPlain early w joined x = HasNone true early w joined x
 
 pub record IsOwn (early : Path → Bool) (w : Walk) (joined : Bool) (r : Result Own ConstError) : Type 0 where
   pub right : IfOk r (HasOwn early w joined)
@@ -69,7 +92,8 @@ pub record HasFull (early : Path → Bool) (w : Walk) (joined : Bool) (f : Full)
 
 -- at its own width and sign
 pub record HasNoFull (early : Path → Bool) (w : Walk) (joined : Bool) (x : ConstError) : Type 0 where
-  pub told : (fixed : Option ℕ) → Told early (sites_at w joined fixed w.shown.reading.meaning.width w.shown.reading.meaning.signed) x
+  pub told : (fixed : Option ℕ) →
+      ToldOf (is_absent fixed) early (sites_at w joined fixed w.shown.reading.meaning.width w.shown.reading.meaning.signed) x
 
 pub record IsFull (early : Path → Bool) (w : Walk) (joined : Bool) (r : Result Full ConstError) : Type 0 where
   pub right : IfOk r (HasFull early w joined)
@@ -89,7 +113,7 @@ pub record HasReached (early : Path → Bool) (w : Walk) (joined : Bool) (r : Re
 
 pub record HasNoReached (early : Path → Bool) (w : Walk) (joined : Bool) (r : Reach) (x : ConstError) : Type 0 where
   pub told : (fixed : Option ℕ) →
-      Told early (sites_at w joined fixed (max w.shown.reading.meaning.width r.least)
+      ToldOf (is_absent fixed) early (sites_at w joined fixed (max w.shown.reading.meaning.width r.least)
       (if r.fixed then r.signed else w.shown.reading.meaning.signed && r.signed)) x
 
 pub record IsReached (early : Path → Bool) (w : Walk) (joined : Bool) (r : Reach) (y : Result Full ConstError) : Type 0 where
@@ -105,7 +129,7 @@ pub record HasPlain (early : Path → Bool) (w : Walk) (joined : Bool) (f : Full
 
 pub record IsPlain (early : Path → Bool) (w : Walk) (joined : Bool) (r : Result Full ConstError) : Type 0 where
   pub right : IfOk r (HasPlain early w joined)
-  pub wrong : IfErr r (HasNoOwn early w joined)
+  pub wrong : IfErr r (HasNoPlain early w joined)
 
 -- two operands at the greater of their widths and of what reaches them
 abbrev pub pair_width : Walk → Walk → Reach → ℕ
@@ -125,8 +149,8 @@ pub record HasPair (early : Path → Bool) (a b : Walk) (r : Reach) (p : Pair) :
   pub right : HasValue b p.left.width p.signed p.right.value
 
 pub record HasNoPair (early : Path → Bool) (a b : Walk) (r : Reach) (x : ConstError) : Type 0 where
-  pub told : (fixed : Option ℕ) → Told early (a.sites Value fixed (pair_width a b r) (pair_signed a b r) ++ b.sites Value fixed (pair_width a b r)
-      (pair_signed a b r)) x
+  pub told : (fixed : Option ℕ) → ToldOf (is_absent fixed) early (a.sites Value fixed (pair_width a b r) (pair_signed a b r) ++
+      b.sites Value fixed (pair_width a b r) (pair_signed a b r)) x
 
 pub record IsPair (early : Path → Bool) (a b : Walk) (r : Reach) (y : Result Pair ConstError) : Type 0 where
   pub right : IfOk y (HasPair early a b r)
@@ -145,10 +169,17 @@ pub record HaveWidths (early : Path → Bool) (ws : List Walk) (total : ℕ) : T
   pub width : total ≡ total_width ws
   pub most : total ≤ 128 * length ws
   pub constant : list_all (λ w. w.shown.reading.constant) ws ≡ true
-  pub sound : (fixed : Option ℕ) → Sound early (joined_sites fixed ws)
+  pub sound : (fixed : Option ℕ) → SoundAt fixed early (joined_sites fixed ws)
 
-pub record HaveNoWidths (early : Path → Bool) (ws : List Walk) (x : ConstError) : Type 0 where
-  pub told : (fixed : Option ℕ) → Told early (joined_sites fixed ws) x
+-- of their words, or of their widths
+pub record HaveNone (valued : Bool) (early : Path → Bool) (ws : List Walk) (x : ConstError) : Type 0 where
+  pub told : (fixed : Option ℕ) → ToldOf (valued && is_absent fixed) early (joined_sites fixed ws) x
+
+abbrev pub HaveNoWidths : (Path → Bool) → List Walk → ConstError → Type 0
+HaveNoWidths early ws x = HaveNone false early ws x
+
+abbrev pub HaveNoWords : (Path → Bool) → List Walk → ConstError → Type 0
+HaveNoWords early ws x = HaveNone true early ws x
 
 pub record AreWidths (early : Path → Bool) (ws : List Walk) (r : Result ℕ ConstError) : Type 0 where
   pub right : IfOk r (HaveWidths early ws)
@@ -168,7 +199,7 @@ pub record HasJoint (early : Path → Bool) (ws : List Walk) (word : Bits) : Typ
 
 -- more than 128 bits, or none
 pub data HasNoJoint (early : Path → Bool) (ws : List Walk) (place : ℕ) : ConstError → Type 0 where
-  inside : {x : ConstError} → HaveNoWidths early ws x → HasNoJoint early ws place x
+  inside : {x : ConstError} → HaveNoWords early ws x → HasNoJoint early ws place x
   wide : is_width (total_width ws) ≡ false → HasNoJoint early ws place (Range place)
 
 pub record IsJoint (early : Path → Bool) (ws : List Walk) (place : ℕ) (r : Result Bits ConstError) : Type 0 where

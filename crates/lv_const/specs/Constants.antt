@@ -1,7 +1,9 @@
 -- What the entries of a list of constants say of names.
-use Rattle.std.specs.Prelude.{true, if◌then◌else◌, List, reverse, bytes_eq, Option, Some, None, find}
-use Rattle.lv_ast.specs.Names.{Name, has_no_steps}
+use Rattle.std.specs.Prelude.{true, List, map, reverse, bytes_eq, Option, Some, None, find}
+use Rattle.lv_ast.specs.Names.{Name}
 use Rattle.lv_source.specs.Names.{Bounds, Names, Constant, Declared, Here}
+use Rattle.lv_source.specs.Constants.{entry_names}
+use Rattle.lv_source.specs.Constants as source
 use Rattle.lv_const.specs.declared.constant.Const.{Const}
 use Rattle.lv_const.specs.declared.consts.Entry.{Entry}
 
@@ -31,9 +33,13 @@ abbrev pub declared_of : Name → Option Const → Option Declared
 declared_of name None = None
 declared_of name (Some c) = Some (constant_of name c)
 
+-- an entry as one of a scope's constants
+abbrev pub declared_entry : Entry → source.Entry
+declared_entry e = record { name = e.name; value = declared_of e.name e.value }
+
 -- the names that have a value
 abbrev pub names_of : List Entry → Names
-names_of es p = if has_no_steps p then declared_of p.name (value_in es p.name) else None
+names_of es = entry_names (map declared_entry es)
 
 -- they alone, as a place where all of them are declared before
 abbrev pub entries_here : List Entry → Here

@@ -8,4 +8,3 @@ pub mod Public
 pub mod Refusals
 pub mod Signs
 pub mod Wherever
-pub mod Widths

@@ -2,7 +2,7 @@
 use Rattle.std.specs.Prelude.{ℕ, ◌≡◌, ◌≤◌, ◌<◌, ◌+◌, ◌-◌, ◌/◌, ◌%◌, ◌^◌, max, min, nat_lt, nat_le, Bool, false, not, ◌&&◌, if◌then◌else◌, map, reverse, Option, None, Some, Result, Ok, Err, ℤ, pos, negsuc, ◌-ℤ◌}
 use Rattle.std.specs.List.{range_with_len}
 use Rattle.lv_bits.specs.Values.{signed_of}
-use Rattle.lv_source.specs.Names.{Bounds, low, high}
+use Rattle.lv_source.specs.Names.{Bounds, low, high, size}
 use Rattle.lv_source.specs.Places.{falls, bits_from, read_bits}
 use Rattle.lv_source.specs.NodeRules.{is_width, is_in_order}
 use Rattle.lv_const.specs.declared.constant.Const.{Const}
@@ -11,7 +11,6 @@ use Rattle.lv_const.specs.declared.error.ConstError.TheVariants.{Range}
 use Rattle.lv_const.specs.declared.own.Own.{Own}
 use Rattle.lv_const.specs.declared.full.Full.{Full}
 use Rattle.lv_const.specs.Constants.{bounds_of}
-use Rattle.lv_const.specs.Widths.{span}
 use Rattle.lv_const.specs.Signs.{is_negative}
 use Rattle.lv_const.specs.Joins.{Owned, Valued, full, is_count}
 
@@ -23,7 +22,7 @@ whole_full c = record { word = c.word; signed = c.signed }
 
 -- what the type of a constant keeps
 pub record IsSized (c : Const) : Type 0 where
-  pub spans : span c.left c.right ≡ c.word.width
+  pub spans : size (bounds_of c) ≡ c.word.width
   pub some : 1 ≤ c.word.width
   pub most : c.word.width ≤ 128
   pub fits : c.word.value < 2 ^ c.word.width

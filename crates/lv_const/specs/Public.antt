@@ -1,14 +1,15 @@
 -- What the two calls on constant expressions answer at a place, by the meaning of expressions there.
-use Rattle.std.specs.Prelude.{◌≡◌, ℕ, ◌≤◌, max, Bool, true, Option, Result, IfOk, IfErr}
+use Rattle.std.specs.Prelude.{◌≡◌, ℕ, ◌≤◌, max, Bool, true, Option, None, Result, IfOk, IfErr}
 use Rattle.lv_bits.specs.Words.{Bits}
 use Rattle.lv_ast.specs.declared.expr.Expr.{Expr}
 use Rattle.lv_source.specs.Names.{Here, Valuation}
 use Rattle.lv_source.specs.Meaning.{own_width, own_signed, value_of, is_constant}
 use Rattle.lv_const.specs.declared.error.ConstError.{ConstError}
 use Rattle.lv_source.specs.Sites.{Value, walk}
-use Rattle.lv_const.specs.Answers.{Told, Sound, Divides}
+use Rattle.lv_const.specs.Answers.{Told, ToldOwn, Sound, Divides, Counted}
 
--- its own width and own type; each of its names is a constant that is declared before, and nothing in it is out of range
+-- its own width and own type; each of its names is a constant that is declared before, nothing in it is out of range, and no count in it, nor a bound
+-- or width of a part select, is divided by 0
 pub record IsOwnOf (here : Here) (x : Expr) (w : ℕ) (s : Bool) : Type 0 where
   pub width : w ≡ own_width here.names x
   pub signed : s ≡ own_signed here.names x
@@ -16,10 +17,11 @@ pub record IsOwnOf (here : Here) (x : Expr) (w : ℕ) (s : Bool) : Type 0 where
   pub most : w ≤ 128
   pub constant : is_constant here.names x ≡ true
   pub sound : (fixed : Option ℕ) (W : ℕ) (T : Bool) → Sound here.early ((walk here.names x).sites Value fixed W T)
+  pub counted : (W : ℕ) (T : Bool) → Counted ((walk here.names x).sites Value None W T)
 
--- a fault of a node, at whatever width and sign the expression is taken
+-- a fault of a node, at whatever width and sign the expression is taken; a division by 0 only where it has to be constant
 pub record IsOwnRefusal (here : Here) (x : Expr) (y : ConstError) : Type 0 where
-  pub told : (fixed : Option ℕ) (W : ℕ) (T : Bool) → Told here.early ((walk here.names x).sites Value fixed W T) y
+  pub told : (fixed : Option ℕ) (W : ℕ) (T : Bool) → ToldOwn here.early ((walk here.names x).sites Value fixed W T) y
 
 pub record IsOwnAnswer (here : Here) (x : Expr) (r : Result (ℕ × Bool) ConstError) : Type 0 where
   pub right : IfOk r (λ o. IsOwnOf here x o.0 o.1)

@@ -1,5 +1,5 @@
 //! Laws of the answers of the calls: each function does nothing.
-ghost use Rattle.std.specs.Prelude.{ℕ, Bool, List, Option, Some, max};
+ghost use Rattle.std.specs.Prelude.{ℕ, Bool, List, Option, Some, None, max, Contains, flat_map};
 ghost use Rattle.lv_bits.specs.Words.{Bits};
 ghost use Rattle.lv_ast.specs.declared.expr.Expr.{Expr};
 ghost use Rattle.lv_source.specs.Names.{Here};
@@ -7,6 +7,8 @@ ghost use Rattle.lv_source.specs.Meaning.{own_width};
 ghost use Rattle.lv_source.specs.Sites.{Value, walk, spots};
 ghost use Rattle.lv_const.specs.declared.consts.Entry.{Entry};
 ghost use Rattle.lv_const.specs.declared.error.ConstError.{ConstError};
+ghost use Rattle.lv_const.specs.declared.error.ConstError.TheVariants.{ZeroDivisor};
+ghost use Rattle.lv_const.specs.Faults.{counted_zero};
 ghost use Rattle.lv_const.specs.Constants.{names_of, entries_here};
 ghost use Rattle.lv_const.specs.Wherever.{AreDeclared};
 ghost use Rattle.lv_const.specs.Public.{IsOwnOf, IsOwnRefusal, IsValueOf, IsValueRefusal};
@@ -22,6 +24,12 @@ pub fn entries_are_a_place()
 pub fn own_refusals_are_faults()
     ensures { (here : Here) (x : Expr) (y : ConstError) (first W : ℕ) (T : Bool) → IsOwnRefusal here x y →
         IsFault here (spots here ((walk here.names x).sites Value (Some first) W T)) y }
+{}
+
+/// A division by 0 that `own_of` tells is inside of a replication count, or of a bound or width of a part select.
+pub fn own_zero_divisors_are_counted()
+    ensures { (here : Here) (x : Expr) (place W : ℕ) (T : Bool) → IsOwnRefusal here x (ZeroDivisor place) →
+        Contains (flat_map counted_zero ((walk here.names x).sites Value None W T)) place }
 {}
 
 /// So is what `value_of` refuses, at the width and type of the call.

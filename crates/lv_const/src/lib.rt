@@ -22,5 +22,5 @@ pub use consts::{Consts, Entry};
 pub use error::ConstError;
 pub use laws::{
     entries_are_a_place, own_answers_have_no_faults, own_refusals_are_faults,
-    value_answers_have_no_faults, value_refusals_are_faults,
+    own_zero_divisors_are_counted, value_answers_have_no_faults, value_refusals_are_faults,
 };

@@ -1,5 +1,5 @@
 ghost use Rattle.std.specs.Prelude.{◌≡◌, ◌≤◌};
-ghost use Rattle.lv_const.specs.Widths.{span};
+ghost use Rattle.lv_source.specs.Names.{size};
 
 use crate::sort::Sort;
 use lv_bits::Text;
@@ -15,7 +15,7 @@ pub struct Signal {
     pub signed: bool,
     pub array: Option<(u32, u32)>,
     pub sort: Sort,
-    ghost wide: { span left right ≡ width },
+    ghost wide: { size (record { left = left; right = right }) ≡ width },
     ghost most: { width ≤ 128 },
 }
 

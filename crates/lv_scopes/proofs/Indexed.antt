@@ -11,6 +11,7 @@ use Rattle.lv_source.specs.Names.{Declared}
 use Rattle.lv_source.proofs.Tests.{same_name, name-itself, decide}
 use Rattle.lv_const.specs.declared.constant.Const.{Const}
 use Rattle.lv_const.specs.declared.consts.Entry.{Entry}
+use Rattle.lv_const.proofs.Declared.{entries-say}
 use Rattle.lv_const.specs.Constants.{value_in, value_of_entry, declared_of, constant_of, names_of}
 
 -- what follows from an Ok
@@ -45,7 +46,8 @@ module _ (es : List Entry) (index : Name) (c : Const) (d : Declared) where
   picks p false b h = refl
 
   pub indexed : constant_of index c ≡ d → names_of (es ++ e ∷ []) ≡ (λ p. if has_no_steps p && bytes_eq p.name index then Some d else names_of es p)
-  indexed h = fun_ext (λ p.
+  indexed h = fun_ext (λ p. entries-say (es ++ e ∷ []) p ∙
       ap (λ o. if has_no_steps p then declared_of p.name o else None) (snoc p.name) ∙
       picks p (has_no_steps p) (bytes_eq index p.name) (λ t. ap (λ name. constant_of name c) (sym (same_name index p.name t)) ∙ h) ∙
+      ap (λ o. if has_no_steps p && bytes_eq index p.name then Some d else o) (sym (entries-say es p)) ∙
       ap (λ b. if has_no_steps p && b then Some d else names_of es p) (turned index p.name))

@@ -1,5 +1,5 @@
 -- The answer on a constant expression where it stands, from those of the calls on its width and its value.
-use Rattle.std.proofs.Common.{◌≡◌, ◌≤◌, ◌+◌, arith, ℕ, max, Bool, List, sym, ap, ◌∙◌, subst, Ok, Err, Some}
+use Rattle.std.proofs.Common.{◌≡◌, ◌≤◌, ◌+◌, arith, ℕ, max, Bool, true, List, sym, ap, ◌∙◌, subst, Ok, Err, Some}
 use Rattle.lv_bits.specs.Words.{Bits}
 use Rattle.lv_ast.specs.declared.expr.Expr.{Expr}
 use Rattle.lv_source.specs.Names.{Here}
@@ -8,6 +8,7 @@ use Rattle.lv_source.specs.Sites.{Site, Value, walk, first_place}
 use Rattle.lv_const.specs.declared.error.ConstError.{ConstError}
 use Rattle.lv_const.specs.Answers.{Told, Divides}
 use Rattle.lv_const.specs.Public.{IsOwnOf, IsOwnRefusal, IsValueOf, IsValueRefusal}
+use Rattle.lv_const.proofs.Told.{told-too}
 use Rattle.lv_const.proofs.WalkReads.{walk-reads}
 use Rattle.lv_scopes.specs.Numbers.{IsNumberAnswer}
 
@@ -63,4 +64,4 @@ module _ (here : Here) (x : Expr) (least w : ℕ) (s : Bool) (o : IsOwnOf here x
   }
 
 pub number_none : (here : Here) (x : Expr) (least : ℕ) (y : ConstError) → IsOwnRefusal here x y → IsNumberAnswer here least x (Err y)
-number_none here x least y o = record { right = tt; wrong = o.told _ _ _ }
+number_none here x least y o = record { right = tt; wrong = told-too here.early true _ y (o.told _ _ _) }

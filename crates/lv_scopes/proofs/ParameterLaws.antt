@@ -22,7 +22,6 @@ use Rattle.lv_const.specs.declared.error.ConstError.{ConstError}
 use Rattle.lv_const.specs.declared.error.ConstError.TheVariants as x
 use Rattle.lv_const.specs.Answers.{Told}
 use Rattle.lv_const.specs.Faults.{all_faults}
-use Rattle.lv_const.specs.Widths.{span}
 use Rattle.lv_const.proofs.Told.{sound-none, divides-none}
 use Rattle.lv_scopes.specs.declared.number.Number.{Number}
 use Rattle.lv_scopes.specs.Numbers.{AreClean, IsNumber}
@@ -57,11 +56,11 @@ sized_is here x n width h =
 -- ---- a range
 
 -- a vector has at most 128 bits
-pub narrow : (here : Here) (r : Range) (b : ℕ × ℕ) → IsRange here r true b → span b.0 b.1 ≤ 128
+pub narrow : (here : Here) (r : Range) (b : ℕ × ℕ) → IsRange here r true b → size (record { left = b.0; right = b.1 }) ≤ 128
 narrow here r b h =
     let t : is_width (size (bounds_of here.names r)) ≡ true = and-right
     (is_bound (bound_number here.names r.left) && is_bound (bound_number here.names r.right)) _ h.allowed in
-    let u : is_width (span b.0 b.1) ≡ true = sym (ap (λ z. is_width (size z)) h.bounds) ∙ t in
+    let u : is_width (size (record { left = b.0; right = b.1 })) ≡ true = sym (ap (λ z. is_width (size z)) h.bounds) ∙ t in
     grind (arith, nat_tests)
 
 -- ---- answers
@@ -107,7 +106,7 @@ module _ (here there : Here) (signed : Bool) (value : Expr) (place : ℕ) where
     }
 
     module _ (b : ℕ × ℕ) (h : IsRange here r true b) where
-      wide : span b.0 b.1 ≡ size (bounds_of here.names r)
+      wide : size (record { left = b.0; right = b.1 }) ≡ size (bounds_of here.names r)
       wide = sym (ap size h.bounds)
 
       pub some_right : (c : Const) → IsSized there signed value b.0 b.1 c → IsParameterAnswer here there signed (Some r) value place (Ok c)
@@ -123,7 +122,7 @@ module _ (here there : Here) (signed : Bool) (value : Expr) (place : ℕ) where
         wrong = tt;
       }
 
-      pub some_wrong : (y : ConstError) → Told there.early (expr_sites true there.names (span b.0 b.1) value) y →
+      pub some_wrong : (y : ConstError) → Told there.early (expr_sites true there.names (size (record { left = b.0; right = b.1 })) value) y →
           IsParameterAnswer here there signed (Some r) value place (Err y)
       some_wrong y k = record {
         right = tt;

@@ -3,7 +3,7 @@ use Rattle.std.specs.Prelude.{◌≡◌, ℕ, Bool, true, not, List, ◌++◌, m
 use Rattle.lv_ast.specs.declared.expr.Expr.{Expr}
 use Rattle.lv_ast.specs.declared.stmt.Ident.{Ident}
 use Rattle.lv_ast.specs.declared.item.Range.{Range}
-use Rattle.lv_source.specs.Names.{Here}
+use Rattle.lv_source.specs.Names.{Here, size}
 use Rattle.lv_source.specs.Values.{nowhere}
 use Rattle.lv_source.specs.Meaning.{meaning}
 use Rattle.lv_source.specs.Effect.{assigned}
@@ -16,7 +16,6 @@ use Rattle.lv_const.specs.declared.error.ConstError.TheVariants as x
 use Rattle.lv_const.specs.Answers.{Told}
 use Rattle.lv_const.specs.Faults.{all_faults}
 use Rattle.lv_const.specs.Constants.{constant_of}
-use Rattle.lv_const.specs.Widths.{span}
 use Rattle.lv_scopes.specs.Numbers.{AreClean}
 use Rattle.lv_scopes.specs.declared.setting.ParameterError.{ParameterError}
 use Rattle.lv_scopes.specs.declared.setting.ParameterError.TheVariants as e
@@ -34,12 +33,12 @@ pub record IsPlainAnswer (there : Here) (signed : Bool) (value : Expr) (r : Resu
 pub record IsSized (there : Here) (signed : Bool) (value : Expr) (left right : ℕ) (c : Const) : Type 0 where
   pub is : (name : Ident) →
       constant_of name.name c ≡
-      constant name.name (record { left = left; right = right }) signed (assigned nowhere (span left right) (meaning there.names value))
-  pub clean : AreClean there.early (expr_sites true there.names (span left right) value)
+      constant name.name (record { left = left; right = right }) signed (assigned nowhere (size (record { left = left; right = right })) (meaning there.names value))
+  pub clean : AreClean there.early (expr_sites true there.names (size (record { left = left; right = right })) value)
 
 pub record IsSizedAnswer (there : Here) (signed : Bool) (value : Expr) (first last : ℕ) (r : Result Const ConstError) : Type 0 where
   pub right : IfOk r (IsSized there signed value first last)
-  pub wrong : IfErr r (Told there.early (expr_sites true there.names (span first last) value))
+  pub wrong : IfErr r (Told there.early (expr_sites true there.names (size (record { left = first; right = last })) value))
 
 -- ---- the answer
 

@@ -1,7 +1,7 @@
 ghost use Rattle.std.specs.Prelude.{◌≡◌, ◌≤◌};
 ghost use Rattle.lv_const.specs.Constants.{names_of};
 ghost use Rattle.lv_const.specs.Wherever.{Wherever};
-ghost use Rattle.lv_const.specs.Widths.{span};
+ghost use Rattle.lv_source.specs.Names.{size};
 ghost use Rattle.lv_scopes.specs.Parameters.{IsPlainAnswer, IsSizedAnswer, IsParameterAnswer};
 
 use crate::bounds::range_of;
@@ -34,7 +34,7 @@ fn sized(
 ) -> Result<Const, ConstError>
     requires left_in { left ≤ 65535 }
     requires right_in { right ≤ 65535 }
-    requires narrow { span left right ≤ 128 }
+    requires narrow { size (record { left = left; right = right }) ≤ 128 }
     ensures { Wherever (names_of consts.now) (λ there. IsSizedAnswer there signed value.now left right result) }
 {
     let width = left.max(right) - left.min(right) + 1;

@@ -96,7 +96,7 @@ fn told(
     answer(alloc, consts, &expr, width, signed)
 }
 
-const ROWS: [(&str, u32, bool, &str); 114] = [
+const ROWS: [(&str, u32, bool, &str); 120] = [
     ("- 4'd12", 4, false, "4 u 4"),
     ("~ 4'd12", 4, false, "4 u 3"),
     ("4'd12 + 4'd5", 4, false, "4 u 1"),
@@ -187,6 +187,12 @@ const ROWS: [(&str, u32, bool, &str); 114] = [
     ("1 ? 2 : 3 / 0", 32, true, "32 s zero 12"),
     ("{1 / 0{1'd1}}", 8, false, "zero 5"),
     ("P[7 / 0 +: 1]", 1, false, "1 u zero 6"),
+    ("P[1 / 0]", 1, false, "1 u zero 6"),
+    ("P[7 / 0:0]", 8, false, "zero 6"),
+    ("P[0 +: 1 / 0]", 1, false, "zero 11"),
+    ("{1 ? 1 : 1 / 0{1'd1}}", 1, false, "zero 13"),
+    ("{1 + 1 / 0, 1'd1}", 33, false, "33 u zero 9"),
+    ("{2{1 / 0 == 1}}", 2, false, "2 u zero 7"),
     ("{0{1'd1}}", 8, false, "range 1"),
     ("{3, 1'd1}", 8, false, "range 1"),
     ("{128{2'd1}}", 8, false, "range 1"),
@@ -218,6 +224,23 @@ fn rows(rt: HostRuntime) -> Result<(), Fail> {
     let consts = names(rt.alloc())?;
     for (text, width, signed, want) in ROWS.iter() {
         let got = told(rt.alloc(), &consts, text.as_bytes(), *width, *signed)?;
+        assert!(rt; got.as_bytes() == want.as_bytes(), "{text} {got}");
+    }
+    Ok(())
+}
+
+const BARE: [(&str, &str); 3] = [
+    ("7 / 2 - 1", "32 s 2"),
+    ("7 / 0", "32 s zero 4"),
+    ("n", "none 0"),
+];
+
+/// Without names.
+#[test]
+fn bare(rt: HostRuntime) -> Result<(), Fail> {
+    let consts = Consts::new(rt.alloc());
+    for (text, want) in BARE.iter() {
+        let got = told(rt.alloc(), &consts, text.as_bytes(), 32, true)?;
         assert!(rt; got.as_bytes() == want.as_bytes(), "{text} {got}");
     }
     Ok(())

@@ -1,0 +1,5 @@
+pub mod Meeting
+pub mod Cuts
+pub mod Answers
+pub mod Dropping
+pub mod Rounds

@@ -191,33 +191,44 @@ module _ (early : Path → Bool) (names : Names) (joined : Bool) (reach : Reach)
       (walk-Cast names signed a) m f g
       (reached.cast early names joined signed (walk names a) r h)
 
-  pub value-shift : (z : Expr) (op : Op) (a b c : Expr) (r s q : Valued) → z ≡ tree.Bin op a b → c ≡ a → keeps_width op ≡ true → is_apart op ≡ true →
+  -- an operator with two operands
+  bin : (op : Op) (a b : Expr) (q r : Valued) → q ≡ r →
+      IsReached early (walk_step names (Expr-F.Bin op (walk names a) (walk names b))) joined reach r →
+      IsReached early (walk_step names (Expr-F.Bin op (walk names a) (walk names b))) joined reach q
+  bin op a b q r f h = by (λ u. IsReached early (walk_step names (Expr-F.Bin op (walk names a) (walk names b))) joined reach u) q r f h
+
+  bin-lay : (op : Op) (a b : Expr) (q r s : Valued) → reach.least ≤ 128 → q ≡ placed reach r → r ≡ s →
+      IsPlain early (walk_step names (Expr-F.Bin op (walk names a) (walk names b))) joined s →
+      IsReached early (walk_step names (Expr-F.Bin op (walk names a) (walk names b))) joined reach q
+  bin-lay op a b q r s m f g h = bin op a b q (placed reach s) (f ∙ ap (placed reach) g)
+      (reached.at-place early (walk_step names (Expr-F.Bin op (walk names a) (walk names b))) joined reach s m h)
+
+  pub value-Bin : (z : Expr) (op : Op) (a b : Expr) (q : Valued) → z ≡ tree.Bin op a b →
+      IsReached early (walk_step names (Expr-F.Bin op (walk names a) (walk names b))) joined reach q → IsReached early (walk names z) joined reach q
+  value-Bin z op a b q e h = val z (tree.Bin op a b) (Expr-F.Bin op (walk names a) (walk names b)) q q e (walk-Bin names op a b) refl h
+
+  pub value-shift : (op : Op) (a b c : Expr) (r s q : Valued) → c ≡ a → keeps_width op ≡ true → is_apart op ≡ true →
       IsReached early (walk names c) false reach r → IsFull early (walk names b) false s →
-      q ≡ shifted op r s → IsReached early (walk names z) joined reach q
-  value-shift z op a b c r s q e k m j h g f = val z (tree.Bin op a b) (Expr-F.Bin op (walk names a) (walk names b)) q (shifted op r s) e
-      (walk-Bin names op a b) f
+      q ≡ shifted op r s → IsReached early (walk_step names (Expr-F.Bin op (walk names a) (walk names b))) joined reach q
+  value-shift op a b c r s q k m j h g f = bin op a b q (shifted op r s) f
       (reached.bin-shift early names joined op (walk names a) (walk names b) reach r s m j (subst (λ u. IsReached early (walk names u) false reach r) k h) g)
 
-  pub value-logical : (z : Expr) (op : Op) (a b : Expr) (r s t q : Valued) → z ≡ tree.Bin op a b → reach.least ≤ 128 → keeps_width op ≡ false →
-      is_apart op ≡ true →
-      IsFull early (walk names a) false r → IsFull early (walk names b) false s →
-      t ≡ logical op r s → q ≡ placed reach t → IsReached early (walk names z) joined reach q
-  value-logical z op a b r s t q e l m j h g i f = lay z (tree.Bin op a b) (Expr-F.Bin op (walk names a) (walk names b)) q t (logical op r s) e
-      (walk-Bin names op a b) l f i
+  pub value-logical : (op : Op) (a b : Expr) (r s t q : Valued) → reach.least ≤ 128 → keeps_width op ≡ false → is_apart op ≡ true →
+      IsFull early (walk names a) false r → IsFull early (walk names b) false s → t ≡ logical op r s → q ≡ placed reach t →
+      IsReached early (walk_step names (Expr-F.Bin op (walk names a) (walk names b))) joined reach q
+  value-logical op a b r s t q l m j h g i f = bin-lay op a b q t (logical op r s) l f i
       (reached.bin-logical early names joined op (walk names a) (walk names b) r s m j h g)
 
-  pub value-arithmetic : (z : Expr) (op : Op) (a b : Expr) (p : Paired) (q : Valued) → z ≡ tree.Bin op a b → keeps_width op ≡ true → is_apart op ≡ false →
-      IsPair early (walk names a) (walk names b) reach p → q ≡ arithmetic op p → IsReached early (walk names z) joined reach q
-  value-arithmetic z op a b p q e m j h f = val z (tree.Bin op a b) (Expr-F.Bin op (walk names a) (walk names b)) q (arithmetic op p) e
-      (walk-Bin names op a b) f
+  pub value-arithmetic : (op : Op) (a b : Expr) (p : Paired) (q : Valued) → keeps_width op ≡ true → is_apart op ≡ false →
+      IsPair early (walk names a) (walk names b) reach p → q ≡ arithmetic op p →
+      IsReached early (walk_step names (Expr-F.Bin op (walk names a) (walk names b))) joined reach q
+  value-arithmetic op a b p q m j h f = bin op a b q (arithmetic op p) f
       (reached.bin-arithmetic early names joined op (walk names a) (walk names b) reach p m j h)
 
-  pub value-compared : (z : Expr) (op : Op) (a b : Expr) (k : Reach) (p : Paired) (t q : Valued) → z ≡ tree.Bin op a b → reach.least ≤ 128 →
-      keeps_width op ≡ false → is_apart op ≡ false →
-      k ≡ alone → IsPair early (walk names a) (walk names b) k p →
-      t ≡ compared op p → q ≡ placed reach t → IsReached early (walk names z) joined reach q
-  value-compared z op a b k p t q e l m j g h i f = lay z (tree.Bin op a b) (Expr-F.Bin op (walk names a) (walk names b)) q t (compared op p) e
-      (walk-Bin names op a b) l f i
+  pub value-compared : (op : Op) (a b : Expr) (k : Reach) (p : Paired) (t q : Valued) → reach.least ≤ 128 → keeps_width op ≡ false →
+      is_apart op ≡ false → k ≡ alone → IsPair early (walk names a) (walk names b) k p → t ≡ compared op p → q ≡ placed reach t →
+      IsReached early (walk_step names (Expr-F.Bin op (walk names a) (walk names b))) joined reach q
+  value-compared op a b k p t q l m j g h i f = bin-lay op a b q t (compared op p) l f i
       (reached.bin-compared early names joined op (walk names a) (walk names b) p m j (subst (λ u. IsPair early (walk names a) (walk names b) u p) g h))
 
   pub value-Div : (z a b d : Expr) (p : Paired) (q : Valued) (place : ℕ) → z ≡ tree.Div a b → IsPair early (walk names a) (walk names b) reach p →

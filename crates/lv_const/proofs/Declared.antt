@@ -3,7 +3,7 @@ use Rattle.std.proofs.Common.{if◌then◌else◌, ◌≡◌, Bool, true, false,
 use Rattle.lv_ast.specs.declared.expr.Path.{Path}
 use Rattle.std.specs.Prelude.{find, reverse, bytes_eq}
 use Rattle.lv_ast.specs.Names.{Name, has_no_steps}
-use Rattle.lv_source.specs.Names.{Declared, Names, is_constant_sort}
+use Rattle.lv_source.specs.Names.{Declared, is_constant_sort}
 use Rattle.lv_source.specs.Constants.{early_or_none, entry_value}
 use Rattle.lv_source.specs.NodeRules.{is_early}
 use Rattle.lv_const.specs.declared.constant.Const.{Const}

@@ -231,8 +231,11 @@ module _ (early : Path → Bool) where
 
   -- the left one is the lighter, and looked at first
   pub left-wrong : (a b : Walk) (r : Reach) (y : ConstError) → HasNoOwn early a false y → IsPair early a b r (Err y)
-  left-wrong a b r y h = record { right = tt; wrong = no-pair_first a b r y (λ fixed. told-too early (is_absent fixed) _ y
-      (h.told fixed (pair_width a b r) (pair_signed a b r))) }
+  left-wrong a b r y h = record {
+    right = tt;
+    wrong = no-pair_first a b r y (λ fixed. told-too early (is_absent fixed) _ y
+        (h.told fixed (pair_width a b r) (pair_signed a b r)));
+  }
 
   pub left-right_wrong : (a b : Walk) (r : Reach) (o : Own) (y : ConstError) → HasOwn early a false o → HasNoReached early b false (spread r o) y →
       IsPair early a b r (Err y)
@@ -245,8 +248,11 @@ module _ (early : Path → Bool) where
 
   -- the right one is
   pub right-wrong : (a b : Walk) (r : Reach) (y : ConstError) → HasNoOwn early b false y → IsPair early a b r (Err y)
-  right-wrong a b r y h = record { right = tt; wrong = no-pair_second a b r y (λ fixed. told-too early (is_absent fixed) _ y
-      (h.told fixed (pair_width a b r) (pair_signed a b r))) }
+  right-wrong a b r y h = record {
+    right = tt;
+    wrong = no-pair_second a b r y (λ fixed. told-too early (is_absent fixed) _ y
+        (h.told fixed (pair_width a b r) (pair_signed a b r)));
+  }
 
   pub right-left_wrong : (a b : Walk) (r : Reach) (o : Own) (y : ConstError) → HasOwn early b false o → HasNoReached early a false (spread r o) y →
       IsPair early a b r (Err y)

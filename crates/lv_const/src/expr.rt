@@ -1,5 +1,6 @@
-ghost use Rattle.std.specs.Prelude.{◌≡◌, ◌≤◌, map, false};
-ghost use Rattle.lv_source.specs.Sites.{walk, walk_select};
+ghost use Rattle.std.specs.Prelude.{◌≡◌, ◌≤◌, Bool, map, false};
+ghost use Rattle.lv_ast.specs.declared.expr.Expr.TheOpen.{Expr-F};
+ghost use Rattle.lv_source.specs.Sites.{walk, walk_select, walk_step};
 ghost use Rattle.lv_const.specs.Constants.{names_of, declared_of};
 ghost use Rattle.lv_const.specs.Wherever.{Wherever};
 ghost use Rattle.lv_const.specs.Answers.{IsOwn, IsFull, IsReached, IsPair, AreWidths, IsJoint, IsOwnPick, IsFullPick};
@@ -23,7 +24,7 @@ use crate::values::{
 };
 use crate::weight::weight;
 use lv_ast::{Expr, Path, Select};
-use lv_bits::Word;
+use lv_bits::{Op, Word};
 use sqlite_items::Boxed;
 
 /// The constant that a name stands for.
@@ -149,33 +150,10 @@ pub fn value(consts: &Consts, expr: &Expr, joined: bool, reach: Reach) -> Result
                 placed(reach, unary_bit(*op, part))
             }
         }
-        Expr::Bin(op, a, b) => {
-            if op.is_apart() {
-                let right = full(consts, b);
-                if op.keeps_width() {
-                    shifted(*op, value(consts, a.get(), false, reach), right)
-                } else {
-                    let left = full(consts, a);
-                    placed(reach, logical(*op, left, right))
-                }
-            } else if op.keeps_width() {
-                arithmetic(*op, pair(consts, a, b, reach))
-            } else {
-                placed(reach, compared(*op, pair(consts, a, b, alone())))
-            }
-        }
-        Expr::Div(a, b) => {
-            let place = place_of(consts, b.get());
-            divided(place, pair(consts, a, b, reach))
-        }
-        Expr::Rem(a, b) => {
-            let place = place_of(consts, b.get());
-            remains(place, pair(consts, a, b, reach))
-        }
-        Expr::Cond(c, a, b) => {
-            let test = full(consts, c);
-            chosen(test, pair(consts, a, b, reach))
-        }
+        Expr::Bin(op, a, b) => binary(consts, *op, a, b, reach),
+        Expr::Div(a, b) => divided(place_of(consts, b.get()), pair(consts, a, b, reach)),
+        Expr::Rem(a, b) => remains(place_of(consts, b.get()), pair(consts, a, b, reach)),
+        Expr::Cond(c, a, b) => chosen(full(consts, c), pair(consts, a, b, reach)),
         Expr::Cat(parts) => {
             let place = place_of(consts, expr);
             let word = values(consts, parts.as_slice(), place);
@@ -187,10 +165,35 @@ pub fn value(consts: &Consts, expr: &Expr, joined: bool, reach: Reach) -> Result
             let word = values(consts, parts.as_slice(), place);
             placed(reach, repeated_full(place, copies, word))
         }
-        Expr::Cast(signed, a) => {
-            let part = full(consts, a);
-            placed(reach, cast_full(*signed, part))
+        Expr::Cast(signed, a) => placed(reach, cast_full(*signed, full(consts, a))),
+    }
+}
+
+/// The value of two operands under an operator, at what reaches it.
+#[cycle(constants)]
+fn binary(
+    consts: &Consts,
+    op: Op,
+    a: &Boxed<Expr>,
+    b: &Boxed<Expr>,
+    reach: Reach,
+) -> Result<Full, ConstError>
+    requires { reach.least ≤ 128 }
+    ensures { Wherever (names_of consts.now) (λ here. (joined : Bool) →
+        IsReached here.early (walk_step here.names (Expr-F.Bin op (walk here.names a.now) (walk here.names b.now))) joined reach result) }
+{
+    if op.is_apart() {
+        let right = full(consts, b);
+        if op.keeps_width() {
+            shifted(op, value(consts, a.get(), false, reach), right)
+        } else {
+            let left = full(consts, a);
+            placed(reach, logical(op, left, right))
         }
+    } else if op.keeps_width() {
+        arithmetic(op, pair(consts, a, b, reach))
+    } else {
+        placed(reach, compared(op, pair(consts, a, b, alone())))
     }
 }
 

@@ -26,16 +26,17 @@ pub fn own_refusals_are_faults()
         IsFault here (spots here ((walk here.names x).sites Value (Some first) W T)) y }
 {}
 
-/// A division by 0 that `own_of` tells is inside of a replication count, or of a bound or width of a part select.
-pub fn own_zero_divisors_are_counted()
-    ensures { (here : Here) (x : Expr) (place W : ℕ) (T : Bool) → IsOwnRefusal here x (ZeroDivisor place) →
-        Contains (flat_map counted_zero ((walk here.names x).sites Value None W T)) place }
-{}
-
 /// So is what `value_of` refuses, at the width and type of the call.
 pub fn value_refusals_are_faults()
     ensures { (here : Here) (x : Expr) (y : ConstError) (first W : ℕ) (T : Bool) → IsValueRefusal here x W T y →
         IsFault here (spots here ((walk here.names x).sites Value (Some first) (max W (own_width here.names x)) T)) y }
+{}
+
+/// Where the expression stands in no constant position, a division by 0 that `own_of` tells is inside of a replication count, or of a
+/// bound or width of a part select.
+pub fn own_zero_divisors_are_counted()
+    ensures { (here : Here) (x : Expr) (place W : ℕ) (T : Bool) → IsOwnRefusal here x (ZeroDivisor place) →
+        Contains (flat_map counted_zero ((walk here.names x).sites Value None W T)) place }
 {}
 
 /// An expression that has an own width by `own_of` has no faults but divisions by 0, in a constant position or not.

@@ -33,7 +33,8 @@ pub record IsPlainAnswer (there : Here) (signed : Bool) (value : Expr) (r : Resu
 pub record IsSized (there : Here) (signed : Bool) (value : Expr) (left right : ℕ) (c : Const) : Type 0 where
   pub is : (name : Ident) →
       constant_of name.name c ≡
-      constant name.name (record { left = left; right = right }) signed (assigned nowhere (size (record { left = left; right = right })) (meaning there.names value))
+      constant name.name (record { left = left; right = right }) signed
+      (assigned nowhere (size (record { left = left; right = right })) (meaning there.names value))
   pub clean : AreClean there.early (expr_sites true there.names (size (record { left = left; right = right })) value)
 
 pub record IsSizedAnswer (there : Here) (signed : Bool) (value : Expr) (first last : ℕ) (r : Result Const ConstError) : Type 0 where

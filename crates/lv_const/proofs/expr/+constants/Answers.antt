@@ -162,7 +162,7 @@ value-returns-in-Some t c = record {
 pub value-returns-in-Cast : goal.value-returns-in-Cast
 value-returns-in-Cast t c = record {
   at = λ here ok. arm.value-Cast here.early here.names c.args.joined c.args.reach _ _ _ _ _ _ c.in-Cast.is c.requires
-      (c.full-part-in-Cast.ensures.at here ok) c.cast_full.ensures c.placed-in-Cast.ensures;
+      (c.full-in-Cast.ensures.at here ok) c.cast_full.ensures c.placed-in-Cast.ensures;
 }
 
 pub value-returns-then-keeps_width : goal.value-returns-then-keeps_width
@@ -177,56 +177,61 @@ value-returns-else-keeps_width t c = record {
       (sym c.keeps_width.ensures ∙ c.if-keeps_width.false) (c.full-part.ensures.at here ok) c.unary_bit.ensures c.placed-else-keeps_width.ensures;
 }
 
-pub value-returns-then-keeps_width-2 : goal.value-returns-then-keeps_width-2
-value-returns-then-keeps_width-2 t c = record {
-  at = λ here ok. arm.value-shift here.early here.names c.args.joined c.args.reach _ _ _ _ _ _ _ _ c.in-Bin.is c.get-then-keeps_width-2.ensures
-      (sym c.keeps_width-then-is_apart.ensures ∙ c.if-keeps_width-2.true) (sym c.is_apart.ensures ∙ c.if-is_apart.true)
-      (c.value-then-keeps_width-2.ensures.at here ok) (c.full-right.ensures.at here ok) c.shifted.ensures;
+pub value-returns-in-Bin : goal.value-returns-in-Bin
+value-returns-in-Bin t c = record {
+  at = λ here ok. arm.value-Bin here.early here.names c.args.joined c.args.reach _ _ _ _ _ c.in-Bin.is (c.binary.ensures.at here ok c.args.joined);
 }
 
-pub value-returns-else-keeps_width-2 : goal.value-returns-else-keeps_width-2
-value-returns-else-keeps_width-2 t c = record {
-  at = λ here ok. arm.value-logical here.early here.names c.args.joined c.args.reach _ _ _ _ _ _ _ _ c.in-Bin.is c.requires
-      (sym c.keeps_width-then-is_apart.ensures ∙ c.if-keeps_width-2.false) (sym c.is_apart.ensures ∙ c.if-is_apart.true) (c.full-left.ensures.at here ok)
-      (c.full-right.ensures.at here ok) c.logical.ensures c.placed-else-keeps_width-2.ensures;
+pub binary-returns-then-keeps_width : goal.binary-returns-then-keeps_width
+binary-returns-then-keeps_width t c = record {
+  at = λ here ok joined. arm.value-shift here.early here.names joined c.args.reach c.args.op c.args.a.now c.args.b.now _ _ _ _ c.get.ensures
+      (sym c.keeps_width.ensures ∙ c.if-keeps_width.true) (sym c.is_apart.ensures ∙ c.if-is_apart.true)
+      (c.value.ensures.at here ok) (c.full-right.ensures.at here ok) c.shifted.ensures;
 }
 
-pub value-returns-then-keeps_width-3 : goal.value-returns-then-keeps_width-3
-value-returns-then-keeps_width-3 t c = record {
-  at = λ here ok. arm.value-arithmetic here.early here.names c.args.joined c.args.reach _ _ _ _ _ _ c.in-Bin.is
-      (sym c.keeps_width-else-is_apart.ensures ∙ c.if-keeps_width-3.true) (sym c.is_apart.ensures ∙ c.if-is_apart.false)
+pub binary-returns-else-keeps_width : goal.binary-returns-else-keeps_width
+binary-returns-else-keeps_width t c = record {
+  at = λ here ok joined. arm.value-logical here.early here.names joined c.args.reach c.args.op c.args.a.now c.args.b.now _ _ _ _ c.requires
+      (sym c.keeps_width.ensures ∙ c.if-keeps_width.false) (sym c.is_apart.ensures ∙ c.if-is_apart.true) (c.full-left.ensures.at here ok)
+      (c.full-right.ensures.at here ok) c.logical.ensures c.placed.ensures;
+}
+
+pub binary-returns-then-keeps_width-2 : goal.binary-returns-then-keeps_width-2
+binary-returns-then-keeps_width-2 t c = record {
+  at = λ here ok joined. arm.value-arithmetic here.early here.names joined c.args.reach c.args.op c.args.a.now c.args.b.now _ _
+      (sym c.keeps_width-else-is_apart.ensures ∙ c.if-keeps_width-2.true) (sym c.is_apart.ensures ∙ c.if-is_apart.false)
       (c.pair.ensures.at here ok) c.arithmetic.ensures;
 }
 
-pub value-returns-else-keeps_width-3 : goal.value-returns-else-keeps_width-3
-value-returns-else-keeps_width-3 t c = record {
-  at = λ here ok. arm.value-compared here.early here.names c.args.joined c.args.reach _ _ _ _ _ _ _ _ c.in-Bin.is c.requires
-      (sym c.keeps_width-else-is_apart.ensures ∙ c.if-keeps_width-3.false) (sym c.is_apart.ensures ∙ c.if-is_apart.false) c.alone.ensures
-      (c.pair-else-keeps_width-3.ensures.at here ok) c.compared.ensures c.placed-else-keeps_width-3.ensures;
+pub binary-returns-else-keeps_width-2 : goal.binary-returns-else-keeps_width-2
+binary-returns-else-keeps_width-2 t c = record {
+  at = λ here ok joined. arm.value-compared here.early here.names joined c.args.reach c.args.op c.args.a.now c.args.b.now _ _ _ _ c.requires
+      (sym c.keeps_width-else-is_apart.ensures ∙ c.if-keeps_width-2.false) (sym c.is_apart.ensures ∙ c.if-is_apart.false) c.alone.ensures
+      (c.pair-else-keeps_width-2.ensures.at here ok) c.compared.ensures c.placed-else-keeps_width-2.ensures;
 }
 
 pub value-returns-in-Div : goal.value-returns-in-Div
 value-returns-in-Div t c = record {
-  at = λ here ok. arm.value-Div here.early here.names c.args.joined c.args.reach _ _ _ _ _ _ _ c.in-Div.is (c.pair-in-Div.ensures.at here ok)
-      (c.place_of-place.ensures ∙ same-first (names_of c.args.consts.now) here.names _) c.get-in-Div.ensures c.divided.ensures;
+  at = λ here ok. arm.value-Div here.early here.names c.args.joined c.args.reach _ _ _ _ _ _ _ c.in-Div.is (c.pair.ensures.at here ok)
+      (c.place_of.ensures ∙ same-first (names_of c.args.consts.now) here.names _) c.get-in-Div.ensures c.divided.ensures;
 }
 
 pub value-returns-in-Rem : goal.value-returns-in-Rem
 value-returns-in-Rem t c = record {
   at = λ here ok. arm.value-Rem here.early here.names c.args.joined c.args.reach _ _ _ _ _ _ _ c.in-Rem.is (c.pair-in-Rem.ensures.at here ok)
-      (c.place_of-place-in-Rem.ensures ∙ same-first (names_of c.args.consts.now) here.names _) c.get-in-Rem.ensures c.remains.ensures;
+      (c.place_of-in-Rem.ensures ∙ same-first (names_of c.args.consts.now) here.names _) c.get-in-Rem.ensures c.remains.ensures;
 }
 
 pub value-returns-in-Cond : goal.value-returns-in-Cond
 value-returns-in-Cond t c = record {
-  at = λ here ok. arm.value-Cond here.early here.names c.args.joined c.args.reach _ _ _ _ _ _ _ c.in-Cond.is (c.full-test.ensures.at here ok)
+  at = λ here ok. arm.value-Cond here.early here.names c.args.joined c.args.reach _ _ _ _ _ _ _ c.in-Cond.is (c.full.ensures.at here ok)
       (c.pair-in-Cond.ensures.at here ok) c.chosen.ensures;
 }
 
 pub value-returns-in-Cat : goal.value-returns-in-Cat
 value-returns-in-Cat t c = record {
   at = λ here ok. arm.value-Cat here.early here.names c.args.joined c.args.reach _ _ _ _ _ _ _ c.in-Cat.is c.requires c.as_slice-in-Cat.ensures
-      (c.place_of-place-in-Cat.ensures ∙ same-first (names_of c.args.consts.now) here.names _)
+      (c.place_of-place.ensures ∙ same-first (names_of c.args.consts.now) here.names _)
       (c.values-word.ensures.at here ok) c.joined_full.ensures c.placed-in-Cat.ensures;
 }
 
@@ -321,17 +326,17 @@ widths-loop-expr-preserved t c = record {
       (sym c.expr-item.is) (c.loop-expr.invariant.at here ok) (c.in-Ok.ensures.at here ok).right;
 }
 
-pub value-arithmetic-requires : goal.value-arithmetic-requires
-value-arithmetic-requires t c = arm.pair-same (λ p. true) (names_of c.args.consts.now) _ _ _ _
+pub binary-arithmetic-requires : goal.binary-arithmetic-requires
+binary-arithmetic-requires t c = arm.pair-same (λ p. true) (names_of c.args.consts.now) _ _ _ _
     (c.pair.ensures.at (entries_here c.args.consts.now) (entries-declared c.args.consts.now))
 
-pub value-compared-requires : goal.value-compared-requires
-value-compared-requires t c = arm.pair-same (λ p. true) (names_of c.args.consts.now) _ _ _ _
-    (c.pair-else-keeps_width-3.ensures.at (entries_here c.args.consts.now) (entries-declared c.args.consts.now))
+pub binary-compared-requires : goal.binary-compared-requires
+binary-compared-requires t c = arm.pair-same (λ p. true) (names_of c.args.consts.now) _ _ _ _
+    (c.pair-else-keeps_width-2.ensures.at (entries_here c.args.consts.now) (entries-declared c.args.consts.now))
 
 pub value-divided-requires : goal.value-divided-requires
 value-divided-requires t c = arm.pair-same (λ p. true) (names_of c.args.consts.now) _ _ _ _
-    (c.pair-in-Div.ensures.at (entries_here c.args.consts.now) (entries-declared c.args.consts.now))
+    (c.pair.ensures.at (entries_here c.args.consts.now) (entries-declared c.args.consts.now))
 
 pub value-remains-requires : goal.value-remains-requires
 value-remains-requires t c = arm.pair-same (λ p. true) (names_of c.args.consts.now) _ _ _ _

@@ -1,20 +1,23 @@
 -- The values that an instance gives the parameters of its module, by name.
-use Rattle.std.specs.Prelude.{◌≡◌, List, map, Option, None, Some, find, bytes_eq, slice_get}
+use Rattle.std.specs.Prelude.{◌≡◌, if◌then◌else◌, List, [], ◌∷◌, map, Option, None, Some, find, bytes_eq}
 use Rattle.std.specs.Option.{option_map}
-use Rattle.std.specs.List.{position}
 use Rattle.lv_ast.specs.declared.expr.Expr.{Expr}
 use Rattle.lv_ast.specs.Names.{Name}
 use Rattle.lv_source.specs.Names.{Names}
 use Rattle.lv_source.specs.Scopes.{Override}
+use Rattle.lv_scopes.specs.NameLists.{listed}
 use Rattle.lv_symbols.specs.declared.givens.Given.{Given}
 use Rattle.lv_symbols.specs.declared.givens.Givens.{Givens}
 
+-- the value beside the first name that is this one
+abbrev pub value_beside : List Name → List Expr → Name → Option Expr
+value_beside [] values name = None
+value_beside (n ∷ names) [] name = None
+value_beside (n ∷ names) (v ∷ values) name = if bytes_eq n name then Some v else value_beside names values name
+
 -- the value for a name
 abbrev pub value_for : Givens → Name → Option Expr
-value_for g name = elim (position (bytes_eq name) (map (λ k. k.items) g.names.keys)) [ None ↦ None | Some i ↦ option_map (λ x. x.now) (slice_get g.values.items i) ]
-
-abbrev pub override_in : Names → Given → Override
-override_in there g = record { name = g.name.now.name; there = there; value = g.value.now }
+value_for g name = value_beside (listed g.names) (map (λ v. v.now) g.values.items) name
 
 -- the values of this list; of two with one name the first
 pub record AreGiven (list : List Given) (g : Givens) : Type 0 where

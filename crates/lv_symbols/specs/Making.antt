@@ -1,13 +1,11 @@
--- What the declarations of a scope make of their names, and the faults that can be told of them.
-use Rattle.std.specs.Prelude.{◌≡◌, ℕ, ◌<◌, Bool, true, List, [], ◌∷◌, ◌++◌, map, length, Option, None, Some, Contains, flat_map, slice_get, ⊤}
+-- What a declaration makes of its name, and what can be told of it.
+use Rattle.std.specs.Prelude.{◌≡◌, ℕ, ◌+◌, Bool, true, not, ◌&&◌, if◌then◌else◌, List, [], ◌∷◌, ◌++◌, map, Option, None, Some, Contains, Result, IfOk, IfErr, flat_map, ⊤}
 use Rattle.std.specs.Option.{option_map}
-use Rattle.lv_ast.specs.declared.expr.Path.{Path}
+use Rattle.lv_ast.specs.declared.expr.Expr.{Expr}
 use Rattle.lv_ast.specs.declared.item.Range.{Range}
-use Rattle.lv_ast.specs.Names.{Name}
 use Rattle.lv_source.specs.Names.{Bounds, Names, Here}
-use Rattle.lv_source.specs.Declarations as s
-use Rattle.lv_source.specs.Declarations.{Direction, Wire, Reg, Parameter, Index, Instance, Label, Declaration, declared_as}
-use Rattle.lv_source.specs.Scopes.{Scope, Override, is_parameter, is_ranged, range_bounds, array_bounds, with_parameters, scope_names, override_of, here_at}
+use Rattle.lv_source.specs.Declarations.{Direction, Wire, Reg, Parameter, Index, Instance, Label, Declaration}
+use Rattle.lv_source.specs.Scopes.{is_parameter, is_ranged, range_bounds, array_bounds}
 use Rattle.lv_source.specs.ScopeRules.{declaration_sites, range_fault}
 use Rattle.lv_const.specs.declared.error.ConstError.{ConstError}
 use Rattle.lv_const.specs.declared.error.ConstError.TheVariants as x
@@ -24,12 +22,15 @@ use Rattle.lv_symbols.specs.declared.symbol.SymbolError.TheVariants as e
 abbrev pub ends : Bounds → ℕ × ℕ
 ends b = (b.left, b.right)
 
+abbrev pub signal_symbol : Names → Bool → Option Range → Option Range → Symbol
+signal_symbol names signed range array = y.Signal (is_ranged range) signed (ends (range_bounds names range)) (option_map ends (array_bounds names array))
+
 -- what a declaration makes of its name, where these are the constants
 abbrev pub symbol_of : Names → Declaration → Symbol
 symbol_of names d = elim d.thing [
-  | Direction output word signed range ↦ y.Signal (is_ranged range) signed (ends (range_bounds names range)) None
-  | Wire signed range ↦ y.Signal (is_ranged range) signed (ends (range_bounds names range)) None
-  | Reg signed range array ↦ y.Signal (is_ranged range) signed (ends (range_bounds names range)) (option_map ends (array_bounds names array))
+  | Direction output word signed range ↦ signal_symbol names signed range None
+  | Wire signed range ↦ signal_symbol names signed range None
+  | Reg signed range array ↦ signal_symbol names signed range array
   | Parameter local signed range value ↦ y.Constant
   | Index genvar ↦ y.Index genvar
   | Instance ↦ y.Other
@@ -47,18 +48,6 @@ pub record IsSoundHere (here : Here) (d : Declaration) : Type 0 where
   pub allowed : range_fault here.names d ≡ []
   pub clean : AreClean here.early (declaration_sites here.names d)
 
--- the value that counts for a parameter, where an instance gives one
-abbrev pub given_for : List Override → Declaration → Option Override
-given_for os d = elim d.thing [
-  | Parameter local signed range value ↦ override_of local os d.name.name
-  | Direction output word signed range ↦ None
-  | Wire signed range ↦ None
-  | Reg signed range array ↦ None
-  | Index genvar ↦ None
-  | Instance ↦ None
-  | Label ↦ None
-]
-
 abbrev pub range_in : Declaration → Option Range
 range_in d = elim d.thing [
   | Parameter local signed range value ↦ range
@@ -70,13 +59,22 @@ range_in d = elim d.thing [
   | Label ↦ None
 ]
 
--- ---- the scopes that the answers speak of
+-- the faults of the value that an instance gives it, which is read outside
+abbrev pub given_faults : Here → Here → Option Expr → Declaration → List ConstError
+given_faults here outside None d = []
+given_faults here outside (Some value) d = flat_map (all_faults outside.early) (value_sites here outside (range_in d) value)
 
--- a scope with these declarations, whose parameters have these overrides, the constants around it being those of `base`; each name of a
--- parameter is declared once
-pub record IsScopeOf (ds : List Declaration) (os : List Override) (base : Names) (s : Scope) : Type 0 where
-  pub declarations : s.declarations ≡ ds
-  pub top : Bool
-  pub clocks : List Name
-  pub names : s.names ≡ scope_names (with_parameters os base ds) s.path top clocks ds
-  pub apart : (k : ℕ) (d : Declaration) → slice_get ds k ≡ Some d → is_parameter d ≡ true → declared_as d.name.name ds ≡ d ∷ []
+abbrev pub IsGivenClean : Here → Here → Option Range → Option Expr → Type 0
+IsGivenClean here outside range None = ⊤
+IsGivenClean here outside range (Some value) = AreClean outside.early (value_sites here outside range value)
+
+-- what is told of it
+abbrev pub IsToldOf : Here → Here → Option Expr → Declaration → SymbolError → Type 0
+IsToldOf here outside given d (e.Own y) = Contains (own_faults here d) y
+IsToldOf here outside given d (e.Given y) = Contains (given_faults here outside given d) y
+IsToldOf here outside given d e.NoMemory = ⊤
+
+-- how many of them are parameters
+abbrev pub parameters_in : List Declaration → ℕ
+parameters_in [] = 0
+parameters_in (d ∷ ds) = (if is_parameter d then 1 else 0) + parameters_in ds

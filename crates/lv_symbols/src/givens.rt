@@ -1,9 +1,10 @@
-ghost use Rattle.std.specs.Prelude.{◌≡◌, option_map, IfOk};
+ghost use Rattle.std.specs.Prelude.{◌≡◌, IfOk};
+ghost use Rattle.std.specs.Option.{option_map};
 ghost use Rattle.lv_symbols.specs.Giving.{value_for, AreGiven};
 
-use indexmap::IndexSet;
 use lv_ast::{Expr, Ident};
 use lv_bits::NoMemory;
+use lv_scopes::NameTable;
 use std::alloc::Global;
 
 /// A value that an instance gives a parameter.
@@ -15,7 +16,7 @@ pub struct Given<'a> {
 
 /// Values by name; of two with one name the first counts.
 pub struct Givens<'a> {
-    pub names: IndexSet<Vec<u8>>,
+    pub names: NameTable,
     pub values: Vec<&'a Expr>,
 }
 
@@ -32,18 +33,14 @@ impl<'a> Givens<'a> {
     pub fn new(alloc: Global, list: &[Given<'a>]) -> Result<Givens<'a>, NoMemory>
         ensures { IfOk result (AreGiven list.now) }
     {
-        let mut names = IndexSet::new(alloc);
+        let mut names = NameTable::new(alloc);
         let mut values = Vec::new(alloc);
         for given in list {
-            let Ok(name) = Vec::from_slice(alloc, given.name.name.bytes()) else {
-                return Err(NoMemory);
-            };
-            values.reserve(1)?;
-            match names.insert_full(name) {
+            match names.add(alloc, given.name.name.bytes()) {
                 Err(_) => return Err(NoMemory),
                 Ok((_, added)) => {
                     if added {
-                        values.push_reserved(given.value);
+                        values.push(given.value)?;
                     }
                 }
             }
@@ -55,7 +52,9 @@ impl<'a> Givens<'a> {
     pub fn get(&self, name: &Ident) -> Option<&'a Expr>
         ensures { option_map (λ x. x.now) result ≡ value_for self.now name.now.name }
     {
-        let index = self.names.get_index_of(name.name.bytes())?;
-        self.values.get(index).copied()
+        match self.names.find(name.name.bytes()) {
+            None => None,
+            Some(index) => self.values.get(index).copied(),
+        }
     }
 }

@@ -23,7 +23,7 @@ loop-given-preserved c =
     let v : map (λ v. v.now) c.if-added.values.items ≡ (if c.in-Ok.added then vs ++ x.value.now ∷ [] else vs) =
     elim c.if-added.branch [
       | then-added+in_ok-push-in-Ok w ↦ rw w.values-is
-          (ap (map (λ v. v.now)) w.in_ok-push-in-Ok.ensures.ok.items ∙ map-join (λ v. v.now) c.loop-given.values.items (x.value ∷ []) ∙
+          (ap (map (λ v. v.now)) w.in_ok-push-in-Ok.ensures.items ∙ map-join (λ v. v.now) c.loop-given.values.items (x.value ∷ []) ∙
           sym (ap (λ b. if b then vs ++ x.value.now ∷ [] else vs) w.if-added.true))
       | else-added w ↦ rw w.values-is (sym (ap (λ b. if b then vs ++ x.value.now ∷ [] else vs) w.if-added.false))
     ] in

@@ -9,8 +9,8 @@ use Rattle.lv_ast.specs.declared.expr.Expr.{Expr}
 use Rattle.lv_ast.specs.declared.item.Range.{Range}
 use Rattle.lv_ast.specs.declared.stmt.Ident.{Ident}
 use Rattle.lv_source.specs.Names.{Names, Here, with_name}
-use Rattle.lv_source.specs.Declarations.{Thing, Direction, Wire, Reg, Parameter, Index, Instance, Label, Declaration, declared_as}
-use Rattle.lv_source.specs.Scopes.{Override, is_parameter, parameter, overridden, override_of, early_by, early_at, here_at}
+use Rattle.lv_source.specs.Declarations.{Thing, Direction, Wire, Reg, Parameter, Index, Instance, Label, Declaration}
+use Rattle.lv_source.specs.Scopes.{Override, is_parameter, parameter, overridden, override_of, early_at, here_at}
 use Rattle.lv_source.specs.Constants.{early_or_none}
 use Rattle.lv_source.proofs.Bridges.{two, map-join}
 use Rattle.lv_source.proofs.Summaries.{append-none}

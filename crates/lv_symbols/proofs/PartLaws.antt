@@ -1,8 +1,7 @@
 -- What is answered of one declaration, from the answers on its ranges and values.
-use Rattle.std.proofs.Common.{◌≡◌, ◌⊎◌, inl, inr, ℕ, ◌<◌, arith, Bool, true, false, not, ◌&&◌, List, [], ◌∷◌, ◌++◌, map, length, refl, sym, ap, ◌∙◌, subst, Option, Some, None, Ok, Err}
+use Rattle.std.proofs.Common.{◌≡◌, ◌⊎◌, inl, inr, ℕ, ◌<◌, arith, Bool, true, false, not, ◌&&◌, List, [], ◌∷◌, ◌++◌, map, refl, sym, ap, ◌∙◌, subst, Option, Some, None, Ok, Err}
 use Rattle.std.specs.Prelude.{flat_map, Result, IfOk, IfErr}
 use Rattle.std.specs.List.{Contains}
-use Rattle.std.specs.Option.{option_map}
 use Rattle.std.proofs.lemmas.List.Elements.{Contains-append_left, Contains-append_right, Contains-append_cases}
 use Rattle.lv_ast.specs.declared.expr.Path.{Path}
 use Rattle.lv_ast.specs.declared.expr.Expr.{Expr}
@@ -23,14 +22,14 @@ use Rattle.lv_const.specs.declared.error.ConstError.TheVariants as x
 use Rattle.lv_const.specs.Constants.{names_of}
 use Rattle.lv_const.specs.Faults.{all_faults, form_faults}
 use Rattle.lv_const.specs.Wherever.{Wherever}
-use Rattle.lv_const.proofs.Told.{both-empty, first-empty, second-empty, sound-both, divides-both, divides-none, sound-none}
+use Rattle.lv_const.proofs.Told.{both-empty, first-empty, second-empty, sound-both, divides-both}
 use Rattle.lv_scopes.specs.Numbers.{AreClean}
-use Rattle.lv_scopes.specs.Parameters.{IsSound, IsParameterFault, value_sites, parameter_faults}
+use Rattle.lv_scopes.specs.Parameters.{IsSound, IsParameterFault, value_sites}
 use Rattle.lv_symbols.specs.declared.symbol.Symbol.{Symbol}
 use Rattle.lv_symbols.specs.declared.symbol.Symbol.TheVariants as y
 use Rattle.lv_symbols.specs.declared.symbol.SymbolError.{SymbolError}
 use Rattle.lv_symbols.specs.declared.symbol.SymbolError.TheVariants as e
-use Rattle.lv_symbols.specs.Making.{signal_symbol, symbol_of, own_faults, given_faults, IsSoundHere, IsToldOf, parameters_in}
+use Rattle.lv_symbols.specs.Making.{signal_symbol, symbol_of, given_faults, IsToldOf, parameters_in}
 use Rattle.lv_symbols.specs.Answers.{ranges_faults, AreBounds, AreBoundsTold, AreElements, both_allowed, both_sites, IsSignal, IsSignalTold, IsSignalAnswer, IsSet, IsNotSet, IsSetTold, value_faults, names_behind, IsMade, IsNotMade}
 
 -- ---- what is clean has no faults

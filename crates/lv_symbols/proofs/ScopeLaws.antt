@@ -1,6 +1,6 @@
 -- The constants of a scope where some of its declarations stand before.
-use Rattle.std.proofs.Common.{◌≡◌, ◌⊎◌, inl, inr, ℕ, zero, suc, ◌+◌, Bool, true, false, ◌&&◌, ◌||◌, List, [], ◌∷◌, ◌++◌, map, length, take, drop, refl, sym, ap, ◌∙◌, subst, Option, Some, None}
-use Rattle.std.specs.Prelude.{bytes_eq, filter, cond, if◌then◌else◌}
+use Rattle.std.proofs.Common.{◌≡◌, ◌⊎◌, inl, inr, ℕ, zero, suc, ◌+◌, Bool, true, false, ◌&&◌, ◌||◌, List, [], ◌∷◌, ◌++◌, length, take, drop, refl, sym, ap, ◌∙◌, subst, Option, Some, None}
+use Rattle.std.specs.Prelude.{bytes_eq, cond, if◌then◌else◌}
 use Rattle.std.specs.List.{list_any}
 use Rattle.lv_ast.specs.declared.expr.Path.{Path}
 use Rattle.lv_ast.specs.declared.expr.Expr.{Expr}
@@ -10,7 +10,7 @@ use Rattle.lv_ast.specs.Names.{Name, has_no_steps}
 use Rattle.lv_source.specs.Names.{Names, Declared, Sort, Other, with_name, is_constant_sort}
 use Rattle.lv_source.specs.Names.{Index as Index_sort}
 use Rattle.lv_source.specs.Declarations.{Thing, Direction, Wire, Reg, Parameter, Index, Instance, Label, Declaration, declared_as}
-use Rattle.lv_source.specs.Scopes.{Scope, Override, is_parameter, with_parameters, parameter, overridden, override_of, signal, other, sort_of, stands_for, scope_names, is_among, early_by, early_at}
+use Rattle.lv_source.specs.Scopes.{Override, is_parameter, with_parameters, parameter, overridden, override_of, signal, other, sort_of, stands_for, scope_names, is_among, early_by, early_at}
 use Rattle.lv_source.specs.Effect.{with_index}
 use Rattle.lv_source.specs.Constants.{early_or_none}
 use Rattle.lv_source.proofs.Tests.{decide, any-left, any-right}

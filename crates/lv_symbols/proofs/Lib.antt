@@ -1,0 +1,4 @@
+mod GivenLaws
+mod LoopLaws
+mod PartLaws
+mod ScopeLaws

@@ -10,4 +10,4 @@ mod steps;
 mod target;
 
 pub use extent::{Aim, Extent, Step, Way};
-pub use parts::extents;
+pub use parts::{block, continuous};

@@ -7,10 +7,10 @@ ghost use Rattle.lv_flat.specs.Cells.{AreDistinct, all_cells};
 ghost use Rattle.lv_flat.specs.Signals.{declared_all};
 ghost use Rattle.lv_flat.specs.Executing.{pieces};
 ghost use Rattle.lv_flat.specs.Flows.{summary};
-ghost use Rattle.lv_flat.specs.FlatViews.{flat_view, flat_views};
-ghost use Rattle.lv_flat.specs.Good.{good_body, good_stmt, good_target};
+ghost use Rattle.lv_flat.specs.FlatViews.{flat_view};
+ghost use Rattle.lv_flat.specs.Good.{good_stmt, good_target};
 ghost use Rattle.lv_flat.specs.Judged.{is_good};
-ghost use Rattle.lv_extents.specs.Extents.{way_of, IsExtent, AreExtents};
+ghost use Rattle.lv_extents.specs.Extents.{way_of, IsExtent};
 ghost use Rattle.lv_extents.specs.Blocks.{aim_spans, step_aim_spans, step_spans, flat_way, IsBlock};
 
 use crate::extent::{Aim, Extent, Step, Way};
@@ -18,8 +18,7 @@ use crate::reads::add_reads;
 use crate::steps::add_steps;
 use crate::target::add_aims;
 use lv_bits::NoMemory;
-use lv_flat::{Flat, FlatBody, FlatExpr, FlatPart, FlatStmt, FlatTarget, Signal};
-use lv_lower_exprs::signal_of;
+use lv_flat::{FlatExpr, FlatPart, FlatStmt, FlatTarget, Signal};
 use lv_spans::Span;
 use sqlite_items::Items;
 use std::alloc::Global;
@@ -65,18 +64,20 @@ fn step_reads(alloc: Global, steps: &[Step]) -> Result<Items<Span>, NoMemory>
     Ok(into)
 }
 
-/// The extent of an assignment or of a connection.
-fn continuous(
+/// The extent of an assignment or of a connection, given whether it names one bit twice (IEEE 1364-2005, section 6.1).
+pub fn continuous(
     alloc: Global,
     signals: &[Signal],
     p: &FlatPart,
     t: &FlatTarget,
     x: &FlatExpr,
+    twice: bool,
 ) -> Result<Extent, NoMemory>
     requires is { p.now.body ≡ bodies.Assign t.now x.now }
     requires target { good_target (declared_all signals.now) t.now ≡ true }
     requires value { is_good (declared_all signals.now) x.now ≡ true }
     requires distinct { AreDistinct (all_cells (declared_all signals.now)) }
+    requires twice { twice ≡ has_twice (writes_of (pieces (declared_all signals.now) t.now)) }
     ensures { IfOk result (λ e. IsExtent (declared_all signals.now) (flat_view (declared_all signals.now) p.now) e) }
 {
     let mut reads = Items::new(alloc);
@@ -85,7 +86,6 @@ fn continuous(
     add_reads(alloc, signals, x, &mut reads)?;
     add_aims(alloc, signals, t, &mut aims, &mut reads)?;
     add_bits(aims.as_slice(), &mut drives)?;
-    let twice = names_twice(alloc, signals, t)?;
     let path = p.path.copy(alloc)?;
     let clocks = Items::from_slice(alloc, p.clocks.as_slice())?;
     Ok(Extent {
@@ -103,25 +103,29 @@ fn continuous(
     })
 }
 
-/// The extent of a block.
-fn block(
+/// The extent of a block, given whether some path leaves a bit unwritten that it writes, and whether some path reads one first
+/// (IEEE 1364-2005, section 9).
+pub fn block(
     alloc: Global,
     signals: &[Signal],
     p: &FlatPart,
     way: Way,
     s: &FlatStmt,
+    latch: bool,
+    exposed: bool,
 ) -> Result<Extent, NoMemory>
     requires way { way_of way ≡ flat_way (declared_all signals.now) p.now.body }
     requires is { IsBlock p.now.body s.now }
     requires good { good_stmt (declared_all signals.now) s.now ≡ true }
     requires distinct { AreDistinct (all_cells (declared_all signals.now)) }
+    requires latch { latch ≡ leaves_latch (summary (declared_all signals.now) s.now) }
+    requires exposed { exposed ≡ exposes_own (summary (declared_all signals.now) s.now) }
     ensures { IfOk result (λ e. IsExtent (declared_all signals.now) (flat_view (declared_all signals.now) p.now) e) }
 {
     let mut steps = Items::new(alloc);
     add_steps(alloc, signals, s, &mut steps)?;
     let drives = step_bits(alloc, steps.as_slice())?;
     let reads = step_reads(alloc, steps.as_slice())?;
-    let paths = judge_paths(alloc, signals, s)?;
     let path = p.path.copy(alloc)?;
     let clocks = Items::from_slice(alloc, p.clocks.as_slice())?;
     Ok(Extent {
@@ -133,58 +137,8 @@ fn block(
         reads,
         aims: Items::new(alloc),
         steps,
-        latch: paths.0,
-        exposed: paths.1,
+        latch,
+        exposed,
         twice: false,
     })
-}
-
-fn extent_of(alloc: Global, signals: &[Signal], p: &FlatPart) -> Result<Extent, NoMemory>
-    requires good { good_body (declared_all signals.now) p.now.body ≡ true }
-    requires distinct { AreDistinct (all_cells (declared_all signals.now)) }
-    ensures { IfOk result (λ e. IsExtent (declared_all signals.now) (flat_view (declared_all signals.now) p.now) e) }
-{
-    match &p.body {
-        FlatBody::Assign(t, x) => {
-            let e = continuous(alloc, signals, p, t, x.get())?;
-            Ok(e)
-        }
-        FlatBody::Combinational(s) => {
-            let e = block(alloc, signals, p, Way::Combinational, s.get())?;
-            Ok(e)
-        }
-        FlatBody::Clocked(name, s) => {
-            let sort = signal_of(signals, name.signal).sort;
-            let e = block(alloc, signals, p, Way::Edge(sort, name.place), s.get())?;
-            Ok(e)
-        }
-    }
-}
-
-/// What the rules need of each part of a flat design, in order.
-pub fn extents(alloc: Global, flat: &Flat) -> Result<Items<Extent>, NoMemory>
-    ensures { IfOk result (λ xs. AreExtents (declared_all flat.now.signals) (flat_views (declared_all flat.now.signals) flat.now.parts) xs) }
-{
-    let signals = flat.signals.as_slice();
-    let mut all = Items::new(alloc);
-    for p in flat.parts.as_slice() {
-        let e = extent_of(alloc, signals, p)?;
-        all.push(e)?;
-    }
-    Ok(all)
-}
-
-/// Whether a target names one bit twice. Not built yet: it answers want of memory.
-fn names_twice(_alloc: Global, _signals: &[Signal], _t: &FlatTarget) -> Result<bool, NoMemory>
-    ensures { IfOk result (λ b. b ≡ has_twice (writes_of (pieces (declared_all _signals.now) _t.now))) }
-{
-    Err(NoMemory)
-}
-
-/// Whether a block leaves a bit that it writes unwritten on some path, and whether it reads one first on some path. Not built yet:
-/// it answers want of memory.
-fn judge_paths(_alloc: Global, _signals: &[Signal], _s: &FlatStmt) -> Result<(bool, bool), NoMemory>
-    ensures { IfOk result (λ r. r ≡ (leaves_latch (summary (declared_all _signals.now) _s.now), exposes_own (summary (declared_all _signals.now) _s.now))) }
-{
-    Err(NoMemory)
 }

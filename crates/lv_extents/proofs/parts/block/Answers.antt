@@ -1,4 +1,4 @@
-use Rattle.std.proofs.Common.{Bool, ap, ◌∙◌, refl}
+use Rattle.std.proofs.Common.{ap, ◌∙◌, refl}
 use Rattle.lv_flat.specs.Signals.{declared_all}
 use Rattle.lv_extents.specs.Extents.{IsStep}
 use Rattle.lv_extents.specs.Blocks.{step_aim_spans, step_spans}
@@ -12,4 +12,4 @@ returns c =
     let steps = each-from (IsStep S) c.new-steps.result _ _ c.new-steps.ensures c.in_ok-add_steps.ensures in
     block-extent S c.args.p.now _ c.in_ok-path.ensures refl (c.in_ok-clocks.ensures ∙ c.as_slice-3.ensures) c.args.s.now c.requires.is c.requires.way steps
     (c.in_ok-drives.ensures ∙ ap step_aim_spans c.as_slice.ensures) (c.in_ok-reads.ensures ∙ ap step_spans c.as_slice-2.ensures) c.new.ensures
-    (ap (λ (p : Bool × Bool). p.0) c.in_ok-paths.ensures) (ap (λ (p : Bool × Bool). p.1) c.in_ok-paths.ensures)
+    c.requires.latch c.requires.exposed

@@ -23,4 +23,4 @@ returns c =
     (subst (λ (xs : List Span). AreSpansOf S (writes_of (pieces S c.args.t.now)) xs)
     (sym (c.in_ok-add_bits.ensures ∙ (ap (λ (xs : List Span). xs ++ aim_spans c.as_slice.result.now) c.new-drives.ensures ∙ ap aim_spans c.as_slice.ensures)))
     (assign-drives S (pieces S c.args.t.now) _ aims))
-    (adds-from S c.new-reads.result _ _ c.new-reads.ensures (adds-then S c.in_ok-add_reads.ensures.reads c.in_ok-add_aims.ensures.reads)) aims c.new.ensures refl refl c.in_ok-twice.ensures
+    (adds-from S c.new-reads.result _ _ c.new-reads.ensures (adds-then S c.in_ok-add_reads.ensures.reads c.in_ok-add_aims.ensures.reads)) aims c.new.ensures refl refl c.requires.twice

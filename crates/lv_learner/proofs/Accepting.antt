@@ -30,6 +30,7 @@ accepted task budget cert sets first allowed x fits above base step imply fm am 
     greatest task s fits above (no_more task s Base budget sets.base cert.base base) (no_more task s Step budget sets.step cert.step step) in
     let i : Implies (task_machine task) task.lookahead s = implies task s (no_more task s Imply budget sets.imply cert.imply imply) in
     record {
+      possible = record { initial = can task [] Initial first fm; allowed = can task [] Allowed allowed am };
       safe = safe task s g.inductive i;
       greatest = g;
       implies = i;

@@ -13,7 +13,7 @@ use Rattle.lv_product.specs.declared.task.Task.{Task}
 use Rattle.lv_product.specs.declared.task.Pair.{Pair}
 use Rattle.lv_product.specs.declared.task.Query.{Query}
 use Rattle.lv_product.specs.declared.task.Query.TheVariants.{Initial, Allowed, Base, Step, Imply}
-use Rattle.lv_product.specs.Queries.{task_machine}
+use Rattle.lv_product.specs.Queries.{task_machine, FitsKept}
 use Rattle.lv_learner.specs.declared.answers.Sets.{Sets}
 use Rattle.lv_learner.specs.declared.answers.Learnt.{Learnt}
 use Rattle.lv_learner.specs.declared.answers.Learnt.TheVariants as l
@@ -45,8 +45,9 @@ pub record IsPossible (task : Task) : Type 0 where
   pub initial : CanBeMet task [] Initial
   pub allowed : CanBeMet task [] Allowed
 
--- the list is the greatest and implies, so the machine is safe; the certificate shows it against the sets
+-- there are an initial pair and an allowed input; the list is the greatest and implies, so the machine is safe; the certificate shows it against the sets
 pub record IsAccepted (task : Task) (budget : ℕ) (cert : Cert) (sets : Sets) : Type 0 where
+  pub possible : IsPossible task
   pub safe : Safe (task_machine task) task.lookahead
   pub greatest : IsGreatest (task_machine task) task.lookahead cert.kept.items
   pub implies : Implies (task_machine task) task.lookahead cert.kept.items
@@ -69,9 +70,10 @@ IsEmpty task budget Initial spent = (CanBeMet task [] Initial → ⊥) × IsRefu
 IsEmpty task budget Allowed spent = CanBeMet task [] Initial × (CanBeMet task [] Allowed → ⊥) × IsRefutedFor task [] Allowed budget spent.set spent.log
 IsEmpty task budget _ spent = ⊥
 
--- the log is spent on a set that stands for the query with a list that has all members of each inductive one
+-- the log is spent on a set that stands for the query with a list of candidates that has all members of each inductive one
 pub record IsShort (task : Task) (budget : ℕ) (q : Query) (spent : Spent) : Type 0 where
   pub list : List ℕ
+  pub fits : FitsKept task list
   pub above : HasAllInductive task list
   pub spent_is : IsSpentFor task list q budget spent.set spent.log
 

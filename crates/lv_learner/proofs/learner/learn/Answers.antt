@@ -60,7 +60,7 @@ returns-in-Short c =
     let s : List ℕ = c.in_ok-all.all.numbers.items in
     let h : IsSpentFor task s Initial c.args.budget c.in-Short.spent.set c.in-Short.spent.log =
     subst (λ (f : Found). IsFound task s Initial c.args.budget f) c.in-Short.is c.in_ok-pair.ensures in
-    record { list = s; above = all_above task s c.in_ok-all.ensures; spent_is = h }
+    record { list = s; fits = all_fit task s c.in_ok-all.ensures; above = all_above task s c.in_ok-all.ensures; spent_is = h }
 
 pub returns-in-Short-2 : goal.returns-in-Short-2
 returns-in-Short-2 c =
@@ -68,4 +68,4 @@ returns-in-Short-2 c =
     let s : List ℕ = c.in_ok-all.all.numbers.items in
     let h : IsSpentFor task s Allowed c.args.budget c.in-Short-2.spent.set c.in-Short-2.spent.log =
     subst (λ (f : Found). IsFound task s Allowed c.args.budget f) c.in-Short-2.is c.in_ok-pair-2.ensures in
-    record { list = s; above = all_above task s c.in_ok-all.ensures; spent_is = h }
+    record { list = s; fits = all_fit task s c.in_ok-all.ensures; above = all_above task s c.in_ok-all.ensures; spent_is = h }

@@ -21,6 +21,7 @@ use Rattle.lv_const.specs.Answers.{Sound}
 use Rattle.lv_const.specs.Answers as const
 use Rattle.lv_const.specs.Public.{IsOwnRefusal, IsValueOf, IsValueRefusal}
 use Rattle.lv_const.proofs.Refusals.{found, Found, gathered}
+use Rattle.lv_const.proofs.Told.{told-too}
 use Rattle.lv_const.proofs.WalkReads.{walk-reads}
 use Rattle.lv_const.proofs.Numbers.{split}
 use Rattle.lv_const.proofs.Lists.{take-whole}
@@ -141,7 +142,7 @@ module _ (here : Here) (W : ℕ) (T : Bool) (d : Divisor) where
   own-zero z w q e h r k = record {
     right = tt;
     wrong = zeroed q w k (zero-told (λ p. true) inside w (h.sound W T)
-        (subst (λ u. const.Told (λ p. true) ((walk here.names u).sites Value None W T) w) e (r.told None W T)));
+        (subst (λ u. const.Told (λ p. true) ((walk here.names u).sites Value None W T) w) e (told-too (λ p. true) true _ w (r.told None W T))));
   }
 
   reached : (z : Expr) (V : ℕ) → z ≡ d.expr → IsDivisor here.names W d → V ≡ max (own_width here.names z) W → V ≡ W

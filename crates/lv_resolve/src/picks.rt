@@ -1,5 +1,5 @@
 ghost use Rattle.std.specs.Prelude.{◌≡◌, ◌≤◌};
-ghost use Rattle.lv_const.specs.Widths.{span};
+ghost use Rattle.lv_source.specs.Names.{size};
 
 use lv_flat::FlatSelect;
 use lv_held::Held;
@@ -15,7 +15,7 @@ pub struct Head {
     pub signed: bool,
     pub array: bool,
     pub constant: bool,
-    ghost wide: { span left right ≡ width },
+    ghost wide: { size (record { left = left; right = right }) ≡ width },
     ghost some: { 1 ≤ width },
     ghost most: { width ≤ 128 },
 }

@@ -91,6 +91,7 @@ no_first : (old there : List Entry) (g : Givens) (f : Frame) → IsFrame old the
 no_first old there g f r = record {
   names = λ p. r.before.same p ∙ scope_alike f r.scope 0 p ∙ so_far f r.scope 0 p;
   symbols = refl;
+  here = refl;
   sound = λ j d l e. absurd (omega arith);
   prefixes = λ j l.
       (let e : j ≡ 0 = omega arith in
@@ -155,6 +156,11 @@ module _ (old there : List Entry) (g : Givens) (f : Frame) (r : IsFrame old ther
         two (λ (us : List Symbol) (v : Symbol). us ++ v ∷ []) _ _ _ _ s.symbols (m.symbol.at _ (at_constants f r.scope k mid s.names)) ∙
         sym (map-join (symbol_of (constants_in f)) (take k f.scope.declarations) (d ∷ [])) ∙ ap (map (symbol_of (constants_in f))) (sym t)
 
+    here_more : ys ++ y ∷ [] ≡ map (symbol_of f.scope.names) (take (k + 1) f.scope.declarations)
+    here_more =
+        two (λ (us : List Symbol) (v : Symbol). us ++ v ∷ []) _ _ _ _ s.here (m.symbol.at (here_at f.scope k) (at_place f r.scope k mid s.names)) ∙
+        sym (map-join (symbol_of f.scope.names) (take k f.scope.declarations) (d ∷ [])) ∙ ap (map (symbol_of f.scope.names)) (sym t)
+
     sound_at : IsSoundIn f k d
     sound_at = record {
       own = m.sound.at (here_at f.scope k) (at_place f r.scope k mid s.names);
@@ -180,6 +186,7 @@ module _ (old there : List Entry) (g : Givens) (f : Frame) (r : IsFrame old ther
     one_more c = record {
       names = names_more;
       symbols = symbols_more;
+      here = here_more;
       sound = λ j e l q. sound_more j e (below_or j k l) q;
       prefixes = λ j l. prefix_more c j (up_or j k l);
     }
@@ -260,6 +267,9 @@ module _ (old there new : List Entry) (g : Givens) (items : List Code) (k : ℕ)
 
   pub all_symbols : InEach old there g all (λ f. ys ≡ map (symbol_of (constants_in f)) all)
   all_symbols = record { at = λ f r. (h.each.at f r).symbols ∙ ap (map (symbol_of (constants_in f))) taken_all }
+
+  pub all_here : InEach old there g all (λ f. ys ≡ map (symbol_of f.scope.names) all)
+  all_here = record { at = λ f r. (h.each.at f r).here ∙ ap (map (symbol_of f.scope.names)) taken_all }
 
   pub all_sound : InEach old there g all (λ f. AreSoundIn f all)
   all_sound = record {

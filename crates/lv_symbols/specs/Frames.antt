@@ -117,6 +117,7 @@ pub record IsPrefix (now : List Entry) (n : ℕ) (here : Here) : Type 0 where
 pub record IsSoFar (old now : List Entry) (f : Frame) (ds : List Declaration) (k : ℕ) (ys : List Symbol) : Type 0 where
   pub names : (p : Path) → names_of now p ≡ early_or_none (early_at f.scope k p) (constants_behind f (take k ds) p)
   pub symbols : ys ≡ map (symbol_of (constants_in f)) (take k ds)
+  pub here : ys ≡ map (symbol_of f.scope.names) (take k ds)
   pub sound : (j : ℕ) (d : Declaration) → j < k → slice_get ds j ≡ Some d → IsSoundIn f j d
   pub prefixes : (j : ℕ) → j ≤ k → IsPrefix now (length old + parameters_in (take j ds)) (here_at f.scope j)
 

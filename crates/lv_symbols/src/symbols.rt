@@ -82,6 +82,8 @@ pub fn declare(
 ) -> Result<Vec<Symbol>, SymbolError>
     ensures symbols { IfOk result (λ xs. InEach consts.old there.now givens.now (all_declared declarations.now) (λ f.
         xs.items ≡ map (symbol_of (constants_in f)) (all_declared declarations.now))) }
+    ensures here { IfOk result (λ xs. InEach consts.old there.now givens.now (all_declared declarations.now) (λ f.
+        xs.items ≡ map (symbol_of f.scope.names) (all_declared declarations.now))) }
     ensures sound { OnOk result (InEach consts.old there.now givens.now (all_declared declarations.now) (λ f.
         AreSoundIn f (all_declared declarations.now))) }
     ensures constants { OnOk result (InEach consts.old there.now givens.now (all_declared declarations.now) (λ f.

@@ -1,7 +1,7 @@
 use Rattle.std.proofs.Common.{◌+◌, ◌≤◌, map, length, take, sym, ap, ◌∙◌, subst}
 use Rattle.lv_declared.specs.Listing.{declared}
 use Rattle.lv_symbols.specs.Frames.{AreSoFar}
-use Rattle.lv_symbols.proofs.LoopLaws.{made_first, made_more, made_told, cut_back, cut_in, all_symbols, all_sound, all_prefixes, all_added, all_constants}
+use Rattle.lv_symbols.proofs.LoopLaws.{made_first, made_more, made_told, cut_back, cut_in, all_symbols, all_here, all_sound, all_prefixes, all_added, all_constants}
 use Rattle.lv_symbols.proofs.symbols.declare.Goals as goal
 
 pub loop-declaration-init : goal.loop-declaration-init
@@ -39,6 +39,11 @@ returns-in-Err-clause-kept c =
 pub returns-clause-symbols : goal.returns-clause-symbols
 returns-clause-symbols c =
     all_symbols c.args.consts.now c.args.there.now c.loop-declaration.consts c.args.givens.now c.args.declarations.now c.loop-declaration.declaration-index
+    c.loop-declaration.symbols.items c.loop-declaration.invariant c.loop-declaration-test.false
+
+pub returns-clause-here : goal.returns-clause-here
+returns-clause-here c =
+    all_here c.args.consts.now c.args.there.now c.loop-declaration.consts c.args.givens.now c.args.declarations.now c.loop-declaration.declaration-index
     c.loop-declaration.symbols.items c.loop-declaration.invariant c.loop-declaration-test.false
 
 pub returns-clause-sound : goal.returns-clause-sound

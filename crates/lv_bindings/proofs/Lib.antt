@@ -1,0 +1,10 @@
+mod BoundLaws
+mod FirstLaws
+mod FrameLaws
+mod GroupLaws
+mod Lists
+mod NamedLaws
+mod OnceLaws
+mod OrderLaws
+mod ScopeLaws
+mod TableLaws

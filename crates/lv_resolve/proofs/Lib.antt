@@ -3,6 +3,7 @@ pub mod Arms
 pub mod Bounds
 pub mod Covers
 pub mod FixedLaws
+pub mod LateLaws
 pub mod LateNames
 pub mod Lengths
 pub mod Loosened
@@ -17,4 +18,5 @@ pub mod Settles
 pub mod Steady
 pub mod TargetArms
 pub mod TargetLaws
+pub mod Tops
 pub mod Zeros

@@ -26,7 +26,7 @@ use Rattle.lv_flat.specs.declared.expr.FlatExpr.TheVariants as e
 use Rattle.lv_flat.specs.declared.expr.FlatExpr.TheOpen.{FlatExpr-F}
 use Rattle.lv_flat.specs.declared.expr.FlatSelect.TheVariants as s
 use Rattle.lv_flat.specs.Signals.{Signals, signal_at}
-use Rattle.lv_flat.specs.Judged.{JudgedSelect, judge_select, choices, step_of, is_good, meaning, reading, good_selects}
+use Rattle.lv_flat.specs.Judged.{Judged, JudgedSelect, judge, judge_step, layer_literal, layer_extends, judge_select, choices, step_of, is_good, meaning, reading, good_selects}
 use Rattle.lv_flat.proofs.Judgements.{judge_select-Bit, judge-Const, judge-Signal}
 use Rattle.lv_flat.proofs.ReadAlike as alike
 use Rattle.lv_flat.proofs.Selects.{Alike, AllAlike}
@@ -42,7 +42,7 @@ use Rattle.lv_resolve.proofs.Covers.{within-first, within-second, within-below, 
 use Rattle.lv_resolve.proofs.Nodes.{and-left, and-right, and-both, good-by, has-operand, operand-width, memory-none}
 use Rattle.lv_resolve.proofs.PickLaws.{append-nil, and-one}
 use Rattle.lv_resolve.proofs.Lengths.{from_length}
-use Rattle.lv_resolve.proofs.FixedLaws.{readable}
+use Rattle.lv_resolve.proofs.LateLaws.{readable}
 
 none-there : (o : Option Bounds) → is_there o ≡ false → o ≡ None
 none-there None h = refl
@@ -312,9 +312,10 @@ module _ (S : Signals) (here : Here) (path : Path) (ws : List WalkStep) (ok join
 
     module _ (p : Picks) (h : HasPicks S here d ok ws p) (f : Form) (y : FlatExpr) (cs : List ℕ) (i : IsNamed y cs p f)
         (same : reading S y ≡ top.shown.reading) (good : ok ≡ true → is_width (meaning S y).width ≡ true → is_good S y ≡ true)
-        (clock : clock_in None (Some d) path.place ≡ cs) where
+        (clock : clock_in None (Some d) path.place ≡ cs) (l : FlatExpr-F Judged JudgedSelect) (j : judge S y ≡ judge_step S l)
+        (literal : layer_literal l ≡ None) (extends : layer_extends l ≡ true) where
       o : HasOperand S top ok f.operand
-      o = has-operand S y top ok _ _ _ f.operand i.tree same (rw known h.width) (rw known h.signed) (rw known h.constant) good
+      o = has-operand S y top ok _ _ _ f.operand i.tree same (rw known h.width) (rw known h.signed) (rw known h.constant) good l j literal extends
 
       name-fits : is_width (wide top) ≡ true
       name-fits = operand-width S top ok f.operand o
@@ -354,7 +355,8 @@ module _ (S : Signals) (here : Here) (path : Path) (ws : List WalkStep) (ok : Bo
           (if is_clock_sort (signal_at S k).sort then path.place ∷ [] else []) i
           (alike.alike-Signal S here.names k p.selects path (chosen_of ws) (ap known_of known) h.alike)
           (λ z q. good-by S (e.Signal k p.selects) (FlatExpr-F.Signal k (map (judge_select S) p.selects)) (judge-Signal S k p.selects) q
-          (and-both _ _ sort (selects-good (signal_at S k) h z))) refl;
+          (and-both _ _ sort (selects-good (signal_at S k) h z))) refl
+          (FlatExpr-F.Signal k (map (judge_select S) p.selects)) (judge-Signal S k p.selects) refl refl;
       wrong = tt;
     };
   }
@@ -366,7 +368,8 @@ module _ (S : Signals) (here : Here) (path : Path) (ws : List WalkStep) (ok : Bo
       right = name-right S here path ws ok joined (constant_of path.name c) known refl p h f (e.Const c p.selects) [] i
           (alike.alike-Const S here.names c p.selects path path.name (chosen_of ws) (ap known_of known) h.alike)
           (λ z q. good-by S (e.Const c p.selects) (FlatExpr-F.Const c (map (judge_select S) p.selects)) (judge-Const S c p.selects) q
-          (selects-good (constant_of path.name c) h z)) refl;
+          (selects-good (constant_of path.name c) h z)) refl
+          (FlatExpr-F.Const c (map (judge_select S) p.selects)) (judge-Const S c p.selects) refl refl;
       wrong = tt;
     };
   }

@@ -18,7 +18,7 @@ use Rattle.lv_flat.specs.declared.expr.FlatExpr.{FlatExpr}
 use Rattle.lv_flat.specs.declared.expr.FlatExpr.TheVariants as e
 use Rattle.lv_flat.specs.declared.expr.FlatExpr.TheOpen.{FlatExpr-F}
 use Rattle.lv_flat.specs.Signals.{Signals}
-use Rattle.lv_flat.specs.Judged.{Judged, JudgedSelect, judge, judge_step, reading, meaning, is_good, layer_good}
+use Rattle.lv_flat.specs.Judged.{Judged, JudgedSelect, judge, judge_step, reading, meaning, is_good, layer_good, layer_literal, layer_extends}
 use Rattle.lv_flat.proofs.Judgements.{judge-Un, judge-Bin, judge-Cast}
 use Rattle.lv_flat.proofs.ReadAlike as alike
 use Rattle.lv_resolve.specs.declared.error.ResolveError.{ResolveError}
@@ -26,7 +26,7 @@ use Rattle.lv_resolve.specs.declared.error.ResolveError.TheVariants as x
 use Rattle.lv_resolve.specs.declared.operand.Operand.{Operand}
 use Rattle.lv_resolve.specs.declared.form.Form.{Form}
 use Rattle.lv_resolve.specs.declared.form.Pair.{Pair}
-use Rattle.lv_resolve.specs.Forms.{Sites, HasOperand, HasForm, HasNoForm, FormAnswer, HasPair, PairAnswer, read_sites, operand_sites, operand_least, wide, first_least, pair_sites, pair_least}
+use Rattle.lv_resolve.specs.Forms.{Sites, HasOperand, HasForm, HasNoForm, FormAnswer, HasPair, PairAnswer, read_sites, operand_sites, operand_least, wide, first_least, pair_sites, pair_least, walk_literal, walk_extends}
 use Rattle.lv_resolve.specs.Joins.{IsTree, IsUnary, IsBinary, IsPair, IsCast, binary_width, binary_signed}
 use Rattle.lv_resolve.proofs.Covers.{Within, within-same, within-first, within-second, within-below, within-then, told-within, no-memory, covered-same, covered-both, covered-node}
 
@@ -101,14 +101,17 @@ module _ (S : Signals) where
 
   pub has-operand : (y : FlatExpr) (w : Walk) (ok : Bool) (n : ℕ) (s k : Bool) (o : Operand) → IsTree o y n s k → reading S y ≡ w.shown.reading →
       n ≡ wide w → s ≡ w.shown.reading.meaning.signed → k ≡ w.shown.reading.constant →
-      (ok ≡ true → is_width (meaning S y).width ≡ true → is_good S y ≡ true) → HasOperand S w ok o
-  has-operand y w ok n s k o t r a b c g = record {
+      (ok ≡ true → is_width (meaning S y).width ≡ true → is_good S y ≡ true) → (l : FlatExpr-F Judged JudgedSelect) → judge S y ≡ judge_step S l →
+      layer_literal l ≡ walk_literal w → layer_extends l ≡ walk_extends w → HasOperand S w ok o
+  has-operand y w ok n s k o t r a b c g l j p q = record {
     same = ap (reading S) t.tree ∙ r;
     good = λ h. subst (λ z. is_good S z ≡ true) (sym t.tree)
         (g h (ap (λ (z : Reading). is_width z.meaning.width) r ∙ (ap is_width (sym (t.wide ∙ a)) ∙ width_in o.width o.some o.most)));
     width = t.wide ∙ a;
     signed = t.typed ∙ b;
     constant = t.fixed ∙ c;
+    literal = ap (λ z. (judge S z).literal) t.tree ∙ (ap (λ (v : Judged). v.literal) j ∙ p);
+    extends = ap (λ z. (judge S z).extends) t.tree ∙ (ap (λ (v : Judged). v.extends) j ∙ q);
   }
 
   pub operand-width : (w : Walk) (ok : Bool) (o : Operand) → HasOperand S w ok o → is_width (wide w) ≡ true
@@ -158,7 +161,8 @@ module _ (S : Signals) (here : Here) (joined : Bool) where
       (un-width op w.shown.reading.meaning a.operand.width h.operand.width) (un-signed op w.shown.reading.meaning a.operand.signed h.operand.signed)
       (h.operand.constant ∙ and-true w.shown.reading.constant)
       (λ k m. good-by S y (FlatExpr-F.Un op (judge S a.operand.expr)) (judge-Un S op a.operand.expr) m
-      (and-both (is_unary op) (is_good S a.operand.expr) (and-left (is_unary op) ok k) (h.operand.good (and-right (is_unary op) ok k)))) in
+      (and-both (is_unary op) (is_good S a.operand.expr) (and-left (is_unary op) ok k) (h.operand.good (and-right (is_unary op) ok k))))
+      (FlatExpr-F.Un op (judge S a.operand.expr)) (judge-Un S op a.operand.expr) refl refl in
       let fits : is_width (wide (node (Expr-F.Un op w))) ≡ true = operand-width S (node (Expr-F.Un op w)) (is_unary op && ok) f.operand o in
       record {
         operand = o;
@@ -191,7 +195,8 @@ module _ (S : Signals) (here : Here) (joined : Bool) where
       has-operand S y (node (Expr-F.Cast signed w)) ok _ _ _ f.operand i.tree
       (alike.alike-Cast S here.names signed a.operand.expr w.shown.reading h.operand.same) h.operand.width refl
       (h.operand.constant ∙ and-true w.shown.reading.constant)
-      (λ k m. good-by S y (FlatExpr-F.Cast signed (judge S a.operand.expr)) (judge-Cast S signed a.operand.expr) m (h.operand.good k)) in
+      (λ k m. good-by S y (FlatExpr-F.Cast signed (judge S a.operand.expr)) (judge-Cast S signed a.operand.expr) m (h.operand.good k))
+      (FlatExpr-F.Cast signed (judge S a.operand.expr)) (judge-Cast S signed a.operand.expr) refl refl in
       let fits : is_width (wide (node (Expr-F.Cast signed w))) ≡ true = operand-width S (node (Expr-F.Cast signed w)) ok f.operand o in
       record {
         right = record {
@@ -249,7 +254,8 @@ module _ (S : Signals) (here : Here) (joined : Bool) where
       (λ k m. good-by S y (FlatExpr-F.Bin op (judge S p.left.expr) (judge S p.right.expr)) (judge-Bin S op p.left.expr p.right.expr) m
       (and-both (not (is_unary op)) _ (and-left (not (is_unary op)) (oka && okb) k)
       (and-both (is_good S p.left.expr) (is_good S p.right.expr) (h.left.good (and-left oka okb (and-right (not (is_unary op)) (oka && okb) k)))
-      (h.right.good (and-right oka okb (and-right (not (is_unary op)) (oka && okb) k)))))) in
+      (h.right.good (and-right oka okb (and-right (not (is_unary op)) (oka && okb) k))))))
+      (FlatExpr-F.Bin op (judge S p.left.expr) (judge S p.right.expr)) (judge-Bin S op p.left.expr p.right.expr) refl refl in
       let fits : is_width (wide n) ≡ true = operand-width S n ok f.operand o in
       record {
         right = record {

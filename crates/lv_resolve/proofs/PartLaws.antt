@@ -59,7 +59,7 @@ module _ (S : Signals) (here : Here) (joined : Bool) where
   lit-answer l (Ok f) h k = record {
     right = record {
       operand = has-operand S (e.Lit l) (node (Expr-F.Lit l)) true _ _ _ f.operand h.tree (alike.alike-Lit S here.names l) refl refl refl
-          (λ i m. good-by S (e.Lit l) (FlatExpr-F.Lit l) (judge-Lit S l) m refl);
+          (λ i m. good-by S (e.Lit l) (FlatExpr-F.Lit l) (judge-Lit S l) m refl) (FlatExpr-F.Lit l) (judge-Lit S l) refl refl;
       cover = covered-same here _ _ _ _ _ _ _ _ (λ W T. refl) (omega arith) (sym h.notes.clocks) (sym h.notes.divisors)
           (covered-node here (Expr-F.Lit l) (read_role joined) 0 [] [] (lit-quiet l h.sound) (covered-nothing here 0));
     };
@@ -91,7 +91,9 @@ module _ (S : Signals) (here : Here) (joined : Bool) where
       (λ k m. good-by S y (FlatExpr-F.Cond (judge S fc.operand.expr) (judge S fa.operand.expr) (judge S fb.operand.expr))
       (judge-Cond S fc.operand.expr fa.operand.expr fb.operand.expr) m
       (and-both _ _ (g.operand.good (and-left okc (oka && okb) k)) (and-both _ _ (h.operand.good (and-left oka okb (and-right okc (oka && okb) k)))
-      (i.operand.good (and-right oka okb (and-right okc (oka && okb) k)))))) in
+      (i.operand.good (and-right oka okb (and-right okc (oka && okb) k))))))
+      (FlatExpr-F.Cond (judge S fc.operand.expr) (judge S fa.operand.expr) (judge S fb.operand.expr))
+      (judge-Cond S fc.operand.expr fa.operand.expr fb.operand.expr) refl refl in
       let fits : is_width (wide n) ≡ true = operand-width S n ok f.operand o in
       record {
         right = record {
@@ -254,7 +256,8 @@ module _ (S : Signals) (here : Here) (joined : Bool) (a b : Walk) (oka okb : Boo
       has-operand S y n (oka && okb) _ _ _ f.operand i.tree (alike.alike-Div S here.names p.left.expr p.right.expr a.shown.reading b.shown.reading h.left.same h.right.same)
       (two (λ (j k : ℕ). max j k) _ _ _ _ h.left.width h.right.width) (two (λ (j k : Bool). j && k) _ _ _ _ h.left.signed h.right.signed) (all-true c)
       (λ k m. good-by S y (FlatExpr-F.Div (judge S p.left.expr) (judge S p.right.expr)) (judge-Div S p.left.expr p.right.expr) m
-      (good-fixed true i.left_fixed i.right_fixed k)) in
+      (good-fixed true i.left_fixed i.right_fixed k))
+      (FlatExpr-F.Div (judge S p.left.expr) (judge S p.right.expr)) (judge-Div S p.left.expr p.right.expr) refl refl in
       let fits : is_width (wide n) ≡ true = operand-width S n (oka && okb) f.operand o in
       record {
         right = record {
@@ -285,7 +288,8 @@ module _ (S : Signals) (here : Here) (joined : Bool) (a b : Walk) (oka okb : Boo
       has-operand S y n (oka && okb) _ _ _ f.operand i.tree (alike.alike-Rem S here.names p.left.expr p.right.expr a.shown.reading b.shown.reading h.left.same h.right.same)
       (two (λ (j k : ℕ). max j k) _ _ _ _ h.left.width h.right.width) (two (λ (j k : Bool). j && k) _ _ _ _ h.left.signed h.right.signed) (all-true c)
       (λ k m. good-by S y (FlatExpr-F.Rem (judge S p.left.expr) (judge S p.right.expr)) (judge-Rem S p.left.expr p.right.expr) m
-      (good-fixed true i.left_fixed i.right_fixed k)) in
+      (good-fixed true i.left_fixed i.right_fixed k))
+      (FlatExpr-F.Rem (judge S p.left.expr) (judge S p.right.expr)) (judge-Rem S p.left.expr p.right.expr) refl refl in
       let fits : is_width (wide n) ≡ true = operand-width S n (oka && okb) f.operand o in
       record {
         right = record {
@@ -419,7 +423,8 @@ module _ (S : Signals) (here : Here) (joined : Bool) where
       let o : HasOperand S n ok f.operand =
       has-operand S y n ok _ _ _ f.operand i.tree (alike.alike-Cat S here.names p.exprs _ (h.same ∙ shown-readings ws))
       (h.width ∙ sym (shown-widths ws)) refl (h.constant ∙ shown-constant ws)
-      (λ k m. good-by S y (FlatExpr-F.Cat (map (judge S) p.exprs)) (judge-Cat S p.exprs) m (sym (judged-good p.exprs) ∙ h.good k)) in
+      (λ k m. good-by S y (FlatExpr-F.Cat (map (judge S) p.exprs)) (judge-Cat S p.exprs) m (sym (judged-good p.exprs) ∙ h.good k))
+      (FlatExpr-F.Cat (map (judge S) p.exprs)) (judge-Cat S p.exprs) refl refl in
       let fits : is_width (wide n) ≡ true = operand-width S n ok f.operand o in
       record {
         right = record {
@@ -482,7 +487,8 @@ module _ (S : Signals) (here : Here) (joined : Bool) (n : Walk) (num : Number) (
         (g.same ∙ shown-readings S here joined ws))
         (sym rep-wide) refl (g.constant ∙ (shown-constant S here joined ws ∙ sym (ap (λ k. k && list_all (λ r. r.constant) (map (λ r. r.reading) (map (λ w. w.shown) ws))) h.constant)))
         (λ k m. good-by S y (FlatExpr-F.Rep num.word.value (map (judge S) p.exprs)) (judge-Rep S num.word.value p.exprs) m
-        (sym (judged-good S here joined p.exprs) ∙ g.good k)) in
+        (sym (judged-good S here joined p.exprs) ∙ g.good k))
+        (FlatExpr-F.Rep num.word.value (map (judge S) p.exprs)) (judge-Rep S num.word.value p.exprs) refl refl in
         let fits : is_width (wide top) ≡ true = operand-width S top ok f.operand o in
         let positive : is_positive (number n.shown) ≡ true = sym is-positive ∙ b in
         record {

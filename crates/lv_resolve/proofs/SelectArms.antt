@@ -30,7 +30,7 @@ use Rattle.lv_resolve.specs.Places.{AreNames}
 use Rattle.lv_resolve.specs.Forms.{Told, HasForm, HasNoForm, NameAnswer, IsFixed, operand_sites, has_operands, has_select_operands}
 use Rattle.lv_resolve.specs.Picks.{IsHead, IsBit, IsPart, IsNoPart, IsRun, IsNoRun, HasPick, HasNoPick, PickAnswer, HasPicks, PicksAnswer, IsWhole, IsPicked, IsElement, IsElementBits, IsNamed, head_bounds, is_there}
 use Rattle.lv_resolve.proofs.Covers.{told-within, within-first, within-second}
-use Rattle.lv_resolve.proofs.FixedLaws.{readable, unread-none, none-constant}
+use Rattle.lv_resolve.proofs.LateLaws.{readable, unread-none, none-constant}
 use Rattle.lv_resolve.proofs.PickLaws as pick
 use Rattle.lv_resolve.proofs.NameLaws as name
 use Rattle.lv_resolve.proofs.OperandLaws.{ok-Bit, ok-Part, ok-Up, ok-Down}

@@ -233,7 +233,7 @@ first-is (n ∷ ns) o h = ap place_or h
 
 -- ---- a whole target
 
-most : (n : ℕ) → is_width n ≡ true → n ≤ 128
+pub most : (n : ℕ) → is_width n ≡ true → n ≤ 128
 most n h = grind (arith, nat_tests)
 
 over : (n : ℕ) → 129 ≤ n → capped n ≡ 129
@@ -249,7 +249,7 @@ wide n h = elim (none-or-over n h) [
   | inr k ↦ ap is_width (over n k)
 ]
 
-same-width : (n : ℕ) → is_width (capped n) ≡ is_width n
+pub same-width : (n : ℕ) → is_width (capped n) ≡ is_width n
 same-width n = elim (split (is_width n)) [
   | inl k ↦ let q : capped n ≡ n = omega (arith, most n k) in ap is_width q
   | inr k ↦ wide n k ∙ sym k

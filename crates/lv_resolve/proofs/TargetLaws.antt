@@ -52,7 +52,7 @@ use Rattle.lv_resolve.proofs.Covers.{within-first, within-second, within-below, 
 use Rattle.lv_resolve.proofs.Loosened.{told-steps}
 use Rattle.lv_resolve.proofs.Nodes.{and-both, and-left, and-right}
 use Rattle.lv_resolve.proofs.NameLaws.{selects-good}
-use Rattle.lv_resolve.proofs.FixedLaws.{readable}
+use Rattle.lv_resolve.proofs.LateLaws.{readable}
 use Rattle.lv_resolve.proofs.PickLaws.{append-nil}
 use Rattle.lv_resolve.proofs.PartLaws.{all-snoc}
 
@@ -88,16 +88,16 @@ module _ (d : Declared) (v : Valuation) where
     | false ↦ length-map (bits_of d ss v) _
   ]
 
-  place-length : (o : Option Bounds) (ss : List Chosen) → length (place_by o d ss v).bits ≡ length (bits_of d (bit_selects o ss) v)
+  pub place-length : (o : Option Bounds) (ss : List Chosen) → length (place_by o d ss v).bits ≡ length (bits_of d (bit_selects o ss) v)
   place-length None ss = refl
   place-length (Some b) [] = length-map (all_bits (width_of d)) _
   place-length (Some b) (z ∷ ss) = element-length b (lowest z v) ss
 
-aimed-length : (k : Bool) (p : Place) → length (aimed k p).bits ≡ length p.bits
+pub aimed-length : (k : Bool) (p : Place) → length (aimed k p).bits ≡ length p.bits
 aimed-length true p = refl
 aimed-length false p = length-map p.bits _
 
-bits-cons : (p : Place) (ps : List Place) → bits_in (p ∷ ps) ≡ length p.bits + bits_in ps
+pub bits-cons : (p : Place) (ps : List Place) → bits_in (p ∷ ps) ≡ length p.bits + bits_in ps
 bits-cons p ps = sum_by-cons (λ (k : ℕ). k) (length p.bits) (map (λ q. length q.bits) ps)
 
 assoc : (a b c : ℕ) → a + (b + c) ≡ (a + b) + c
@@ -300,7 +300,7 @@ module _ (S : Signals) (here : Here) (driven : Bool) where
     clocks = sym c;
   }
 
-  more : (ss rs : List Site) (ps qs : List Piece) (ok one : Bool) (g h : TargetForms) (f : TargetForm) → HasGoals S here ss ps ok g → HasGoal S here rs qs one f → AreMore g f h →
+  pub more : (ss rs : List Site) (ps qs : List Piece) (ok one : Bool) (g h : TargetForms) (f : TargetForm) → HasGoals S here ss ps ok g → HasGoal S here rs qs one f → AreMore g f h →
       HasGoals S here (ss ++ rs) (ps ++ qs) (ok && one) h
   more ss rs ps qs ok one g h f a b i = record {
     goal = ap (λ ts. goal_of (flat_map (flat.pieces S) ts)) i.targets ∙ (ap goal_of (snoc (flat.pieces S) g.targets f.target) ∙

@@ -1,8 +1,9 @@
 -- What is answered of an expression below a place: of its tree, and of its nodes where they stand.
-use Rattle.std.specs.Prelude.{◌≡◌, ℕ, ◌≤◌, max, Bool, true, not, ◌&&◌, ◌||◌, if◌then◌else◌, ◌==◌, List, [], ◌∷◌, ◌++◌, Option, None, Result, IfOk, IfErr, Contains, flat_map, map, ⊤}
+use Rattle.std.specs.Prelude.{◌≡◌, ℕ, ◌≤◌, max, Bool, true, false, not, ◌&&◌, ◌||◌, if◌then◌else◌, ◌==◌, List, [], ◌∷◌, ◌++◌, Option, None, Some, Result, IfOk, IfErr, Contains, flat_map, map, ⊤}
 use Rattle.std.specs.List.{list_all}
 use Rattle.lv_bits.specs.declared.op.Op.{Op}
 use Rattle.lv_bits.specs.Values.{keeps_width, is_apart, is_unary}
+use Rattle.lv_ast.specs.declared.expr.Literal.{Literal}
 use Rattle.lv_ast.specs.declared.expr.Path.{Path}
 use Rattle.lv_ast.specs.declared.expr.Expr.{Expr}
 use Rattle.lv_ast.specs.declared.expr.Expr.TheOpen.{Expr-F, Select-F}
@@ -10,13 +11,13 @@ use Rattle.lv_ast.specs.declared.expr.Select.{Select}
 use Rattle.lv_ast.specs.Trees.{fold_expr, fold_select}
 use Rattle.lv_source.specs.Names.{Names, Here}
 use Rattle.lv_source.specs.Values.{nowhere, own_value}
-use Rattle.lv_source.specs.Sites.{Site, Value, Joined, Walk, WalkStep, walk, walk_step, own_sites, fixed_sites}
+use Rattle.lv_source.specs.Sites.{Site, Shown, Step, Value, Joined, Walk, WalkStep, walk, walk_step, own_sites, fixed_sites}
 use Rattle.lv_source.specs.NodeRules.{unknown_name, not_constant, zero_divisor, out_of_range, clock_use}
 use Rattle.lv_const.specs.declared.consts.Entry.{Entry}
 use Rattle.lv_const.specs.Answers.{Sound, read_role, total_width}
 use Rattle.lv_scopes.specs.declared.number.Number.{Number}
 use Rattle.lv_flat.specs.Signals.{Signals}
-use Rattle.lv_flat.specs.Judged.{reading, is_good}
+use Rattle.lv_flat.specs.Judged.{judge, reading, is_good}
 use Rattle.lv_resolve.specs.Places.{AreNames}
 use Rattle.lv_resolve.specs.declared.error.ResolveError.{ResolveError}
 use Rattle.lv_resolve.specs.declared.error.ResolveError.TheVariants as x
@@ -115,6 +116,37 @@ pub record Covered (here : Here) (sites : Sites) (least : ℕ) (cs : List ℕ) (
   pub none : (W : ℕ) (T : Bool) → flat_map (zeros_at here.names W T) ds ≡ [] → flat_map zero_divisor (sites W T) ≡ []
   pub some : (W : ℕ) (T : Bool) (p : ℕ) → Contains (flat_map (zeros_at here.names W T) ds) p → Contains (flat_map zero_divisor (sites W T)) p
 
+-- ---- what a `case` asks for of an expression: the literal that it is, and whether at a greater width it is its own value, extended
+
+abbrev pub node_literal : Expr-F Shown Step → Option Literal
+node_literal (Expr-F.Lit l) = Some l
+node_literal _ = None
+
+abbrev pub node_extends : Expr-F Shown Step → Bool
+node_extends (Expr-F.Lit l) = true
+node_extends (Expr-F.Name path ss) = true
+node_extends (Expr-F.Cat rs) = true
+node_extends (Expr-F.Rep n rs) = true
+node_extends (Expr-F.Cast signed a) = true
+node_extends (Expr-F.Un op a) = not (keeps_width op)
+node_extends (Expr-F.Bin op a b) = not (keeps_width op)
+node_extends _ = false
+
+abbrev pub first_literal : List Site → Option Literal
+first_literal [] = None
+first_literal (s ∷ ss) = node_literal s.node
+
+abbrev pub first_extends : List Site → Bool
+first_extends [] = false
+first_extends (s ∷ ss) = node_extends s.node
+
+-- by the node that it is
+abbrev pub walk_literal : Walk → Option Literal
+walk_literal w = first_literal (w.sites Value None 0 false)
+
+abbrev pub walk_extends : Walk → Bool
+walk_extends w = first_extends (w.sites Value None 0 false)
+
 -- ---- a tree
 
 -- a flat tree with the reading of the one that it came from; `ok` is whether that one's operators have their operands
@@ -124,6 +156,8 @@ pub record HasOperand (S : Signals) (w : Walk) (ok : Bool) (o : Operand) : Type 
   pub width : o.width ≡ w.shown.reading.meaning.width
   pub signed : o.signed ≡ w.shown.reading.meaning.signed
   pub constant : o.constant ≡ w.shown.reading.constant
+  pub literal : (judge S o.expr).literal ≡ walk_literal w
+  pub extends : (judge S o.expr).extends ≡ walk_extends w
 
 pub record HasForm (S : Signals) (here : Here) (sites : Sites) (least : ℕ) (w : Walk) (ok : Bool) (f : Form) : Type 0 where
   pub operand : HasOperand S w ok f.operand

@@ -9,7 +9,7 @@ use Rattle.lv_const.specs.declared.consts.Entry.{Entry}
 use Rattle.lv_const.specs.Constants.{names_of}
 use Rattle.lv_resolve.specs.declared.error.ResolveError.{ResolveError}
 use Rattle.lv_resolve.specs.declared.error.ResolveError.TheVariants as x
-use Rattle.lv_source.specs.Names.{Declared}
+use Rattle.lv_source.specs.Names.{Names, Declared}
 
 abbrev pub path_step : Expr-F (List Path) (List Path) → List Path
 path_step (Expr-F.Lit l) = []
@@ -44,9 +44,12 @@ late_by None (Some k) all place = Some (x.NotConstant place)
 late_by None None (Some d) place = Some (x.NotConstant place)
 late_by None None None place = Some (x.UnknownName place)
 
--- a name that is no constant, or is declared later
+-- a name that is no constant, or is declared later, by all constants and those that are declared before
+abbrev pub late_of : (Path → Option ℕ) → Names → Names → Path → Option ResolveError
+late_of find all early p = late_by (early p) (find p) (all p) p.place
+
 abbrev pub late_name : (Path → Option ℕ) → List Entry → List Entry → Path → Option ResolveError
-late_name find all early p = late_by (names_of early p) (find p) (names_of all p) p.place
+late_name find all early p = late_of find (names_of all) (names_of early) p
 
 abbrev pub or_else : Option ResolveError → Option ResolveError → Option ResolveError
 or_else None y = y

@@ -1,4 +1,5 @@
 pub mod Forms
+pub mod Indices
 pub mod Joins
 pub mod Late
 pub mod Picks

@@ -75,6 +75,7 @@ pub struct ResolvedTarget {
     pub target: Held<FlatTarget>,
     pub width: u32,
     pub clocks: Items<u64>,
+    ghost most: { width ≤ 128 },
 }
 
 impl Drop for ResolvedTarget {
@@ -86,5 +87,19 @@ impl Drop for ResolvedTarget {
         } = self;
         drop(target);
         drop(clocks);
+    }
+}
+
+impl ResolvedTarget {
+    /// Its fields but for the width.
+    pub fn into_parts(self) -> (Held<FlatTarget>, Items<u64>)
+        ensures { result ≡ (self.target, self.clocks) }
+    {
+        let ResolvedTarget {
+            target,
+            width: _,
+            clocks,
+        } = self;
+        (target, clocks)
     }
 }

@@ -1,3 +1,5 @@
+ghost use Rattle.std.specs.Prelude.{◌≡◌};
+
 use lv_flat::FlatExpr;
 use lv_held::Held;
 use sqlite_items::Items;
@@ -13,5 +15,15 @@ impl Drop for Resolved {
         let Resolved { expr, clocks } = self;
         drop(expr);
         drop(clocks);
+    }
+}
+
+impl Resolved {
+    /// Its fields.
+    pub fn into_parts(self) -> (Held<FlatExpr>, Items<u64>)
+        ensures { result ≡ (self.expr, self.clocks) }
+    {
+        let Resolved { expr, clocks } = self;
+        (expr, clocks)
     }
 }

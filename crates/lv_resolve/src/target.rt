@@ -119,7 +119,7 @@ fn indices<B: Bindings>(
 }
 
 /// A name that is written.
-fn target_name<B: Bindings>(
+pub fn target_name<B: Bindings>(
     alloc: Global,
     place: &Place<B>,
     path: &Path,
@@ -149,7 +149,7 @@ fn target_name<B: Bindings>(
 }
 
 /// No targets.
-fn no_targets(alloc: Global) -> TargetForms
+pub fn no_targets(alloc: Global) -> TargetForms
     ensures targets { result.targets ≡ [] }
     ensures width { result.width ≡ 0 }
     ensures clocks { result.clocks ≡ [] }
@@ -162,7 +162,7 @@ fn no_targets(alloc: Global) -> TargetForms
 }
 
 /// One more operand of a concatenation.
-fn with_target(found: TargetForms, one: TargetForm) -> Result<TargetForms, ResolveError>
+pub fn with_target(found: TargetForms, one: TargetForm) -> Result<TargetForms, ResolveError>
     ensures ok { IfOk result (λ f. AreMore found one f) }
     ensures err { IfErr result (λ x. x ≡ NoMemory) }
 {
@@ -183,7 +183,7 @@ fn with_target(found: TargetForms, one: TargetForm) -> Result<TargetForms, Resol
 }
 
 /// The concatenation.
-fn joined(found: TargetForms) -> TargetForm
+pub fn joined(found: TargetForms) -> TargetForm
     ensures target { result.target ≡ t.Cat found.targets }
     ensures width { result.width ≡ found.width }
     ensures clocks { result.clocks ≡ found.clocks }

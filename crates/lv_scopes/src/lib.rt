@@ -17,4 +17,4 @@ pub use parameter::parameter_of;
 pub use params::set_params;
 pub use setting::{ParameterError, set_given, set_own};
 pub use table::NameTable;
-pub use turns::{TurnsError, turns_of};
+pub use turns::{TurnsError, set_index, turns_of};

@@ -69,8 +69,8 @@ fn index_const(value: u32) -> Const
     }
 }
 
-/// Adds the index with its value.
-fn set_index(consts: &mut Consts, index: &Text, value: u32) -> Result<(), NoMemory>
+/// Adds the index of a loop with its value, for a turn. After `NoMemory` the constants are unchanged.
+pub fn set_index(consts: &mut Consts, index: &Text, value: u32) -> Result<(), NoMemory>
     ensures added { OnOk result ((e : Entry) × (consts.new ≡ consts.old ++ e ∷ [])) }
     ensures named { OnOk result (names_of consts.new ≡ with_index (names_of consts.old) index.now value) }
     ensures kept { OnErr result (consts.new ≡ consts.old) }

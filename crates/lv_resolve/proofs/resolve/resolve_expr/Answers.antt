@@ -12,7 +12,8 @@ returns-in-Err g c = record {
 
 pub returns-in-Ok : goal.returns-in-Ok
 returns-in-Ok g c = record {
-  at = λ here ok. answer here (declared_all c.args.place.now.signals.now) c.args.width c.args.expr.now c.reached.result
+  at = λ here ok. answer here (declared_all c.args.place.now.signals.now) c.args.width c.args.expr.now c.in-Ok.found.operand.signed c.reached.result
+      (c.in-Ok.ensures.at here ok).right.operand.signed
       (c.reached.ensures (declared_all c.args.place.now.signals.now) here (read_sites false (walk here.names c.args.expr.now)) (walk here.names c.args.expr.now)
       (has_operands c.args.expr.now) ok.constants (c.in-Ok.ensures.at here ok).right);
 }

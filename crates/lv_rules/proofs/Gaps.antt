@@ -232,7 +232,7 @@ swapped ws d = same_tests (list_any (view_driven ws) (whole d)) (list_any (λ w.
     let b : (b : Bit) × (has_bit r.item.drives b ≡ true) × (has_bit (whole d) b ≡ true) = some_bit_with (has_bit (whole d)) r.item.drives r.holds in
     bit_with (view_driven ws) (whole d) b.0 b.2 (any_of (λ w. has_bit w.drives b.0) ws r.at r.item r.there b.1))
 
-combinational-is : (S : Signals) (vs : List View) (xs : List Extent) (comb : List Bool) (s : ℕ) → AreDistinct (all_cells S) → AreExtents S vs xs → IsTable S xs Combinational comb
+pub combinational-is : (S : Signals) (vs : List View) (xs : List Extent) (comb : List Bool) (s : ℕ) → AreDistinct (all_cells S) → AreExtents S vs xs → IsTable S xs Combinational comb
     → is_signal_sort (signal_at S s).sort ≡ true → list_any (view_driven (filter (λ v. is_combinational v.way) vs)) (whole (signal_at S s)) ≡ is_marked comb s
 combinational-is S vs xs comb s distinct h t a =
     swapped (filter (λ v. is_combinational v.way) vs) (signal_at S s) ∙

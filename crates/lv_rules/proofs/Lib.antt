@@ -8,3 +8,4 @@ pub mod Sharing
 pub mod Twice
 pub mod Sharers
 pub mod Gaps
+pub mod Unmarked

@@ -1,7 +1,7 @@
 -- What each rule tells of one part, by its extent.
 use Rattle.std.proofs.Common.{◌≡◌, ℕ, Bool, true, false, not, ◌&&◌, ◌||◌, ◌==◌, List, [], ◌∷◌, ◌++◌, map, refl, ap, sym, subst, ◌∙◌, Option, Some, None, inl, inr}
 use Rattle.std.specs.Prelude.{flat_map, filter, slice_get, Contains, if◌then◌else◌}
-use Rattle.std.specs.List.{list_any}
+use Rattle.std.specs.List.{list_any, list_all}
 use Rattle.std.proofs.lemmas.Bool.{eqb-true, cases_Bool}
 use Rattle.std.proofs.lemmas.List.Elements.{Contains-append_left, Contains-append_right}
 use Rattle.lv_source.specs.Names.{Declared, is_variable_sort, is_input_sort, is_clock_sort}
@@ -16,9 +16,9 @@ use Rattle.lv_flat.specs.Signals.{Signals, signal_at, sort_of}
 use Rattle.lv_extents.specs.declared.extent.Extent.{Extent}
 use Rattle.lv_extents.specs.Extents.{IsAim, IsStep, IsExtent, way_of, all_aims}
 use Rattle.lv_rules.specs.declared.local.LocalRule.{LocalRule}
-use Rattle.lv_rules.specs.declared.local.LocalRule.TheVariants.{WrongKind, ClockUse, NamedClock, Nonblocking, Latch, ReadFirst}
+use Rattle.lv_rules.specs.declared.local.LocalRule.TheVariants.{Unfixed, WrongKind, ClockUse, NamedClock, Nonblocking, Latch, ReadFirst}
 use Rattle.lv_rules.specs.Rules.{local_views, local_at, unclocked, IsPlace, is_misaimed, is_misdriven, is_other_edge}
-use Rattle.lv_rules.specs.Rules.{IsFound, is_clock_aim, aim_place, is_late_step, step_place, IsClockPlace, clock_place_by}
+use Rattle.lv_rules.specs.Rules.{IsFound, is_unsure, is_clock_aim, aim_place, is_late_step, step_place, IsClockPlace, clock_place_by}
 use Rattle.lv_rules.proofs.Lists.{IsSome, some_of, any_of, any_alike, filter_none, filter_has}
 use Rattle.lv_rules.proofs.Answering.{IsPair, IsMatched, each_get, each_back, each_any, head_has, told_place, mapped_has}
 use Rattle.lv_rules.proofs.Touches.{any_touched}
@@ -62,6 +62,28 @@ wrong_place S v x b o distinct h e f =
     e ∙ (ap (λ c. c || list_any (λ s. is_misdriven (way_of x.way) (signal_at S s.signal).sort) x.drives) (sym (wrong-targets S v x h)) ∙
     ap (λ c. list_any (is_wrong_aim v.way) v.targets || c) (sym (wrong-drives S v x distinct h))) in
     told_place (is_wrong_view (unclocked S) v) v (aimed_at v) x.place o (f ∙ ap (λ c. if c then Some x.place else None) g) (at_itself S v x h (map (λ a. at_view v a.place) v.targets))
+
+-- ---- NotConstant
+
+some_not : (as' : List Aim) → list_any (λ (a : Aim). not a.sure) as' ≡ not (list_all (λ (a : Aim). a.sure) as')
+some_not [] = refl
+some_not (a ∷ as') = one_not a.sure (list_any (λ (a : Aim). not a.sure) as') (list_all (λ (a : Aim). a.sure) as') (some_not as')
+  where
+    one_not : (b c d : Bool) → c ≡ not d → (not b || c) ≡ not (b && d)
+    one_not true c d e = e
+    one_not false c d e = refl
+
+unsure-targets : (S : Signals) (v : View) (x : Extent) → IsExtent S v x → not (list_all (λ (a : Aim). a.sure) v.targets) ≡ list_any is_unsure (all_aims x)
+unsure-targets S v x h = sym (some_not v.targets) ∙ each_any (IsAim S) (λ a. not a.sure) is_unsure v.targets (all_aims x) h.aims (λ a b k. ap not (sym k.sure))
+
+pub unfixed_place : (S : Signals) (v : View) (x : Extent) (b : Bool) (o : Option ℕ) → IsExtent S v x
+    → b ≡ (is_continuous (way_of x.way) && list_any is_unsure (all_aims x)) → o ≡ (if b then Some x.place else None)
+    → IsPlace v (told_if (is_continuous v.way && not (list_all (λ a. a.sure) v.targets)) (aimed_at v)) o
+unfixed_place S v x b o h e f =
+    let g : b ≡ (is_continuous v.way && not (list_all (λ (a : Aim). a.sure) v.targets)) =
+    e ∙ (ap (λ w. is_continuous w && list_any is_unsure (all_aims x)) h.way ∙ ap (λ c. is_continuous v.way && c) (sym (unsure-targets S v x h))) in
+    told_place (is_continuous v.way && not (list_all (λ a. a.sure) v.targets)) v (aimed_at v) x.place o (f ∙ ap (λ c. if c then Some x.place else None) g)
+    (at_itself S v x h (map (λ a. at_view v a.place) v.targets))
 
 -- ---- Latch and ReadFirst
 
@@ -147,6 +169,7 @@ clock_use_place S v x o h f = clock_place_is S v x (is_other_edge (way_of x.way)
 -- ---- all of them
 
 pub local-views : (rule : LocalRule) (ss : List Declared) (vs : List View) → local_views rule ss vs ≡ at_views vs (λ k v. local_at rule ss v)
+local-views Unfixed ss vs = refl
 local-views WrongKind ss vs = refl
 local-views ClockUse ss vs = refl
 local-views NamedClock ss vs = refl

@@ -1,5 +1,5 @@
 -- What parts drive together, by their extents.
-use Rattle.std.specs.Prelude.{◌≡◌, ℕ, ◌<◌, Bool, true, false, not, ◌&&◌, ◌||◌, ◌==◌, if◌then◌else◌, List, Option, Some, None, slice_index_or, slice_get, All}
+use Rattle.std.specs.Prelude.{◌≡◌, ℕ, ◌<◌, Bool, true, false, not, ◌&&◌, ◌||◌, ◌==◌, if◌then◌else◌, List, Option, Some, None, length, slice_index_or, slice_get, All}
 use Rattle.std.specs.List.{list_any}
 use Rattle.lv_source.specs.Names.{is_variable_sort, is_input_sort}
 use Rattle.lv_source.specs.Views.{Way, is_edge, is_continuous, is_combinational}
@@ -21,6 +21,11 @@ is_marked marks s = slice_index_or marks s false
 -- some span is of the signal
 abbrev pub names : ℕ → List Span → Bool
 names s spans = list_any (λ x. x.signal == s) spans
+
+-- of each signal whether it is a variable that isn't marked
+pub record AreUnmarked (S : Signals) (marks flags : List Bool) : Type 0 where
+  pub size : length flags ≡ length S
+  pub each : (s : ℕ) → s < length S → is_marked flags s ≡ (is_variable_sort (signal_at S s).sort && not (is_marked marks s))
 
 abbrev pub is_of : Class → Way → Bool
 is_of Clocked way = is_edge way

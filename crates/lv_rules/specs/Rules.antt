@@ -1,6 +1,6 @@
 -- What is asked of the parts of a flat design, and what is answered.
 use Rattle.std.specs.Prelude.{◌≡◌, ℕ, ◌<◌, Bool, true, false, not, ◌&&◌, ◌==◌, List, [], ◌∷◌, ◌++◌, map, length, Option, Some, None, filter, flat_map, slice_get, Contains}
-use Rattle.std.specs.List.{list_any}
+use Rattle.std.specs.List.{list_any, list_all}
 use Rattle.lv_ast.specs.Names.{Name}
 use Rattle.lv_source.specs.Names.{Declared, Sort, Other, is_signal_sort, is_variable_sort, is_input_sort, is_clock_sort}
 use Rattle.lv_source.specs.Parts.{At}
@@ -8,7 +8,7 @@ use Rattle.lv_source.specs.PartRules.{told_if}
 use Rattle.lv_source.specs.ScopeRules.{same_sign}
 use Rattle.lv_source.specs.Summary.{leaves_latch, exposes_own}
 use Rattle.lv_source.specs.Views.{Way, Continuous, Combinational, Edge, View, is_continuous, is_combinational, at_view, aimed_at}
-use Rattle.lv_source.specs.Views.{is_wrong_view, edge_places, clock_aims, seen_places, wrong_views, clock_views, named_clocks, nonblocking_views, latch_views, first_views}
+use Rattle.lv_source.specs.Views.{is_wrong_view, edge_places, clock_aims, seen_places, unfixed_views, wrong_views, clock_views, named_clocks, nonblocking_views, latch_views, first_views}
 use Rattle.lv_flat.specs.declared.sort.Sort as flat
 use Rattle.lv_flat.specs.Signals.{Signals, sort_of}
 use Rattle.lv_extents.specs.declared.extent.Aim.{Aim}
@@ -17,7 +17,7 @@ use Rattle.lv_extents.specs.declared.extent.Extent.{Extent}
 use Rattle.lv_extents.specs.Extents.{AreExtents, way_of, all_aims}
 use Rattle.lv_rules.specs.declared.told.Told.{Told}
 use Rattle.lv_rules.specs.declared.local.LocalRule.{LocalRule}
-use Rattle.lv_rules.specs.declared.local.LocalRule.TheVariants.{WrongKind, ClockUse, NamedClock, Nonblocking, Latch, ReadFirst}
+use Rattle.lv_rules.specs.declared.local.LocalRule.TheVariants.{Unfixed, WrongKind, ClockUse, NamedClock, Nonblocking, Latch, ReadFirst}
 
 -- the signals of a flat design, without its clocks
 abbrev pub unclocked : Signals → List Declared
@@ -40,6 +40,7 @@ IsToldBy S xs rule o = (vs : List View) → AreExtents S vs xs → IsAnswer vs (
 -- ---- the rules that look at one part alone
 
 abbrev pub local_views : LocalRule → List Declared → List View → List At
+local_views Unfixed ss vs = unfixed_views vs
 local_views WrongKind ss vs = wrong_views ss vs
 local_views ClockUse ss vs = clock_views vs
 local_views NamedClock ss vs = named_clocks vs
@@ -49,6 +50,7 @@ local_views ReadFirst ss vs = first_views vs
 
 -- what is told of one
 abbrev pub local_at : LocalRule → List Declared → View → List At
+local_at Unfixed ss v = told_if (is_continuous v.way && not (list_all (λ a. a.sure) v.targets)) (aimed_at v)
 local_at WrongKind ss v = told_if (is_wrong_view ss v) (aimed_at v)
 local_at ClockUse ss v = edge_places v ++ clock_aims v
 local_at NamedClock ss v = map (at_view v) v.clocks
@@ -80,6 +82,10 @@ abbrev pub is_misdriven : Way → Sort → Bool
 is_misdriven way sort = not (same_sign (not (is_continuous way)) (is_variable_sort sort)) && not (is_input_sort sort)
 
 -- ---- names in targets, and steps
+
+-- an index of it isn't constant
+abbrev pub is_unsure : Aim → Bool
+is_unsure a = not a.sure
 
 abbrev pub is_clock_aim : Aim → Bool
 is_clock_aim a = is_clock_sort (sort_of a.sort)

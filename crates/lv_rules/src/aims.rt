@@ -3,7 +3,7 @@ ghost use Rattle.std.specs.Prelude.{◌≡◌};
 ghost use Rattle.std.specs.List.{list_any};
 ghost use Rattle.lv_flat.specs.Signals.{sort_of};
 ghost use Rattle.lv_extents.specs.Extents.{way_of, all_aims};
-ghost use Rattle.lv_rules.specs.Rules.{is_misaimed, IsFound, is_clock_aim, is_late_step, aim_place, step_place, step_aims};
+ghost use Rattle.lv_rules.specs.Rules.{is_misaimed, is_unsure, IsFound, is_clock_aim, is_late_step, aim_place, step_place, step_aims};
 
 use crate::ways;
 use lv_extents::{Aim, Extent, Step, Way};
@@ -25,6 +25,25 @@ pub(crate) fn is_misaimed(x: &Extent) -> bool
     ensures { result ≡ list_any (λ a. is_misaimed (way_of x.now.way) (sort_of a.sort)) (all_aims x.now) }
 {
     some_misaimed(x.way, x.aims.as_slice()) || some_step_misaimed(x.way, x.steps.as_slice())
+}
+
+fn some_unsure(aims: &[Aim]) -> bool
+    ensures { result ≡ list_any is_unsure aims.now }
+{
+    aims.iter().any(|a| !a.sure)
+}
+
+fn some_step_unsure(steps: &[Step]) -> bool
+    ensures { result ≡ list_any (λ s. list_any is_unsure s.aims) steps.now }
+{
+    steps.iter().any(|s| some_unsure(s.aims.as_slice()))
+}
+
+/// Some name in a target of the part has an index that isn't constant.
+pub(crate) fn is_unsure(x: &Extent) -> bool
+    ensures { result ≡ list_any is_unsure (all_aims x.now) }
+{
+    some_unsure(x.aims.as_slice()) || some_step_unsure(x.steps.as_slice())
 }
 
 fn clock_among(aims: &[Aim]) -> Option<u64>

@@ -1,11 +1,11 @@
 // Rules that look at one part alone.
 ghost use Rattle.std.specs.Prelude.{◌≡◌, List, ◌&&◌, ◌||◌, if◌then◌else◌, Some, None, slice_get};
 ghost use Rattle.std.specs.List.{list_any};
-ghost use Rattle.lv_source.specs.Views.{View, is_combinational};
+ghost use Rattle.lv_source.specs.Views.{View, is_combinational, is_continuous};
 ghost use Rattle.lv_flat.specs.Cells.{AreDistinct, all_cells};
 ghost use Rattle.lv_flat.specs.Signals.{declared_all, signal_at, sort_of};
 ghost use Rattle.lv_extents.specs.Extents.{IsExtent, AreExtents, way_of, all_aims};
-ghost use Rattle.lv_rules.specs.Rules.{unclocked, is_misaimed, is_misdriven, IsFound, is_late_step, step_place, local_at, local_views, IsPlace, IsToldBy, IsClockPlace};
+ghost use Rattle.lv_rules.specs.Rules.{unclocked, is_misaimed, is_misdriven, is_unsure, IsFound, is_late_step, step_place, local_at, local_views, IsPlace, IsToldBy, IsClockPlace};
 
 use crate::told::Told;
 use crate::{aims, ways};
@@ -15,6 +15,8 @@ use lv_flat::Signal;
 /// The rules that look at one part alone.
 #[derive(Clone, Copy)]
 pub enum LocalRule {
+    /// An index in the target of a continuous assignment.
+    Unfixed,
     /// A continuous target that is a variable, or a block's that is none.
     WrongKind,
     /// An edge of a name that is no clock, or a clock in a target.
@@ -53,6 +55,12 @@ fn is_wrong(signals: &[Signal], x: &Extent) -> bool
     aims::is_misaimed(x) || is_misdriven(signals, x)
 }
 
+fn is_unfixed(x: &Extent) -> bool
+    ensures { result ≡ (is_continuous (way_of x.now.way) && list_any is_unsure (all_aims x.now)) }
+{
+    ways::is_continuous(x.way) && aims::is_unsure(x)
+}
+
 fn clock_place(x: &Extent) -> Option<u64>
     ensures { IsClockPlace x.now result }
 {
@@ -86,6 +94,7 @@ fn place_in(rule: LocalRule, signals: &[Signal], x: &Extent) -> Option<u64>
     ensures { (v : View) → IsExtent (declared_all signals.now) v x.now → IsPlace v (local_at rule (unclocked (declared_all signals.now)) v) result }
 {
     match rule {
+        LocalRule::Unfixed => told(is_unfixed(x), x.place),
         LocalRule::WrongKind => told(is_wrong(signals, x), x.place),
         LocalRule::ClockUse => clock_place(x),
         LocalRule::NamedClock => named_place(x),

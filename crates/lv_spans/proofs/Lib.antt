@@ -1,4 +1,4 @@
-mod Added
+pub mod Added
 pub mod Bits
-mod Cells
-mod Sharing
+pub mod Cells
+pub mod Sharing

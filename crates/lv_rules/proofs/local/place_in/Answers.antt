@@ -3,13 +3,18 @@ use Rattle.lv_source.specs.Views.{View}
 use Rattle.lv_flat.specs.Signals.{declared_all}
 use Rattle.lv_extents.specs.Extents.{IsExtent}
 use Rattle.lv_rules.specs.Rules.{IsPlace, local_at, unclocked}
-use Rattle.lv_rules.proofs.Parts.{wrong_place, clock_use_place, named_clock_place, late_step_place}
+use Rattle.lv_rules.proofs.Parts.{unfixed_place, wrong_place, clock_use_place, named_clock_place, late_step_place}
 use Rattle.lv_rules.proofs.local.place_in.Goals as goal
+
+pub returns-in-Unfixed : goal.returns-in-Unfixed
+returns-in-Unfixed c = subst (λ r. (v : View) → IsExtent (declared_all c.args.signals.now) v c.args.x.now → IsPlace v (local_at r (unclocked (declared_all c.args.signals.now)) v)
+    c.told.result) (sym c.in-Unfixed.is)
+    (λ v h. unfixed_place (declared_all c.args.signals.now) v c.args.x.now c.is_unfixed.result c.told.result h c.is_unfixed.ensures c.told.ensures)
 
 pub returns-in-WrongKind : goal.returns-in-WrongKind
 returns-in-WrongKind c = subst (λ r. (v : View) → IsExtent (declared_all c.args.signals.now) v c.args.x.now → IsPlace v (local_at r (unclocked (declared_all c.args.signals.now)) v)
-    c.told.result) (sym c.in-WrongKind.is)
-    (λ v h. wrong_place (declared_all c.args.signals.now) v c.args.x.now c.is_wrong.result c.told.result c.requires h c.is_wrong.ensures c.told.ensures)
+    c.told-in-WrongKind.result) (sym c.in-WrongKind.is)
+    (λ v h. wrong_place (declared_all c.args.signals.now) v c.args.x.now c.is_wrong.result c.told-in-WrongKind.result c.requires h c.is_wrong.ensures c.told-in-WrongKind.ensures)
 
 pub returns-in-ClockUse : goal.returns-in-ClockUse
 returns-in-ClockUse c = subst (λ r. (v : View) → IsExtent (declared_all c.args.signals.now) v c.args.x.now → IsPlace v (local_at r (unclocked (declared_all c.args.signals.now)) v)

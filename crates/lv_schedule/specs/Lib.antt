@@ -1,0 +1,4 @@
+pub mod Hubs
+pub mod Drivers
+pub mod Tables
+pub mod Plans

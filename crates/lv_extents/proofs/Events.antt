@@ -24,7 +24,8 @@ use Rattle.lv_flat.proofs.Effects.{read_arm, flow-Null, flow-Block, flow-If, flo
 use Rattle.lv_spans.specs.Domain.{AreSpansOf}
 use Rattle.lv_extents.specs.declared.extent.Aim.{Aim}
 use Rattle.lv_extents.specs.declared.extent.Step.{Step}
-use Rattle.lv_extents.specs.Extents.{Each, IsAim, IsStep}
+use Rattle.lv_source.specs.PartRules.{has_twice}
+use Rattle.lv_extents.specs.Extents.{Each, AreExact, IsAim, IsStep}
 use Rattle.lv_extents.specs.Adds.{AddsAims, AddsSteps, piece_of, taken}
 use Rattle.lv_extents.specs.Blocks.{all_events, arm_flow, are_good_arms, label_reads, look_at}
 use Rattle.lv_source.proofs.Tests.{and-left, and-right}
@@ -39,9 +40,11 @@ use Rattle.lv_extents.proofs.Lists.{each-one, each-as, each-then, each-none}
 
 module _ (S : Signals) where
   pub aim-adds : (old new : List Aim) (name : FlatName) (ss : List FlatSelect) (x : Aim) → sort_of x.sort ≡ (signal_at S name.signal).sort →
-      AreSpansOf S (bits_named (signal_at S name.signal) (taken S ss)) x.bits → x.sure ≡ all_constant (taken S ss) → x.place ≡ name.place → new ≡ old ++ x ∷ [] →
+      AreSpansOf S (bits_named (signal_at S name.signal) (taken S ss)) x.bits → x.sure ≡ all_constant (taken S ss) → x.place ≡ name.place →
+      has_twice (bits_named (signal_at S name.signal) (taken S ss)) ≡ false → (x.sure ≡ true → AreExact S x.bits) → new ≡ old ++ x ∷ [] →
       AddsAims S old new (aim_of (piece_of S name ss) ∷ [])
-  aim-adds old new name ss x sort bits sure place e = each-one (IsAim S) old new (aim_of (piece_of S name ss)) x (record { sort = sort; bits = bits; sure = sure; place = place }) e
+  aim-adds old new name ss x sort bits sure place once exact e =
+      each-one (IsAim S) old new (aim_of (piece_of S name ss)) x (record { sort = sort; bits = bits; sure = sure; place = place; once = once; exact = exact }) e
 
   pub look-adds : (old new : List Step) (bits : List Bit) (x : Step) → AreSpansOf S bits x.reads → x.aims ≡ [] → x.at_once ≡ true → x.place ≡ 0 → new ≡ old ++ x ∷ [] →
       AddsSteps S old new (look_at bits ∷ [])

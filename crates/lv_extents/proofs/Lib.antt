@@ -1,11 +1,12 @@
-mod Aims
-mod Apart
-mod Constants
-mod Lists
-mod Named
-mod PartViews
-mod Readings
-mod Runs
-mod Spans
-mod Events
-mod Worlds
+pub mod Aims
+pub mod Apart
+pub mod Constants
+pub mod Lists
+pub mod Named
+pub mod PartViews
+pub mod Readings
+pub mod Runs
+pub mod Spans
+pub mod Events
+pub mod Worlds
+pub mod Once

@@ -166,10 +166,10 @@ module _ (S : Signals) where
   pub adds-same : (old new : List Span) (bits more : List Bit) → bits ≡ more → Adds S old new more → Adds S old new bits
   adds-same old new bits more e a = subst (λ (x : List Bit). Adds S old new x) (sym e) a
 
-  cell-scalar : (k : ℕ) → is_signal_sort (signal_at S k).sort ≡ true → (signal_at S k).array ≡ None → is_cell S (k, None) ≡ true
+  pub cell-scalar : (k : ℕ) → is_signal_sort (signal_at S k).sort ≡ true → (signal_at S k).array ≡ None → is_cell S (k, None) ≡ true
   cell-scalar k h e = rw h (rw e refl)
 
-  cell-element : (k i : ℕ) (b : Bounds) → is_signal_sort (signal_at S k).sort ≡ true → (signal_at S k).array ≡ Some b → low b ≤ i → i ≤ high b → is_cell S (k, Some i) ≡ true
+  pub cell-element : (k i : ℕ) (b : Bounds) → is_signal_sort (signal_at S k).sort ≡ true → (signal_at S k).array ≡ Some b → low b ≤ i → i ≤ high b → is_cell S (k, Some i) ≡ true
   cell-element k i b h e p q =
       let a : nat_lt i (low b) ≡ false = grind (arith, nat_tests) in
       let c : nat_lt (high b) i ≡ false = grind (arith, nat_tests) in

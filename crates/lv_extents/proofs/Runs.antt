@@ -90,7 +90,7 @@ module _ (name : Name) where
       (ap (λ u. u || H (somes lo n ++ nones a) x) (of-nones b x) ∙
       (append (somes lo n) (nones a) x ∙ (ap (λ u. H (somes lo n) x || u) (of-nones a x) ∙ (no-more (H (somes lo n) x) ∙ of-somes n lo x))))
 
-  from-has : (n lo : ℕ) (x : Bit) → has_bit (map (λ k. record { name = name; place = k }) (range_with_len lo n)) x ≡ (bytes_eq x.name name && in_run lo n x.place)
+  pub from-has : (n lo : ℕ) (x : Bit) → has_bit (map (λ k. record { name = name; place = k }) (range_with_len lo n)) x ≡ (bytes_eq x.name name && in_run lo n x.place)
   from-has zero lo x = sym (never (bytes_eq x.name name) (in_run lo 0 x.place) (no-run lo x.place))
   from-has (suc n) lo x = ap (λ u. same_bit x (record { name = name; place = lo }) || u) (from-has n (lo + 1) x) ∙ step (bytes_eq x.name name) x.place lo n
 

@@ -172,7 +172,7 @@ module _ (S : Signals) (distinct : AreDistinct (all_cells S)) where
 
   -- ---- a whole signal
 
-  any-cell : (w : ℕ) (x : Bit) (ns : List Name) → has_bit (flat_map (bits_below w) ns) x ≡ (list_any (bytes_eq x.name) ns && in_run 0 w x.place)
+  pub any-cell : (w : ℕ) (x : Bit) (ns : List Name) → has_bit (flat_map (bits_below w) ns) x ≡ (list_any (bytes_eq x.name) ns && in_run 0 w x.place)
   any-cell w x [] = refl
   any-cell w x (n ∷ ns) =
       list_any-append (same_bit x) (bits_below w n) (flat_map (bits_below w) ns) ∙
@@ -190,7 +190,7 @@ module _ (S : Signals) (distinct : AreDistinct (all_cells S)) where
     fits : is_element_in o element ≡ true
     same : n ≡ name_by path element
 
-  in-range : (path n : Name) (m lo : ℕ) → list_any (bytes_eq n) (map (λ i. at_index path (decimal i)) (range_with_len lo m)) ≡ true →
+  pub in-range : (path n : Name) (m lo : ℕ) → list_any (bytes_eq n) (map (λ i. at_index path (decimal i)) (range_with_len lo m)) ≡ true →
       (i : ℕ) × (lo ≤ i) × (i < lo + m) × (n ≡ at_index path (decimal i))
   in-range path n zero lo h = cc
   in-range path n (suc m) lo h = or-cases (bytes_eq n (at_index path (decimal lo))) _ h

@@ -1,11 +1,12 @@
 -- The extent of a part: its view with spans in place of lists of bits.
-use Rattle.std.specs.Prelude.{◌≡◌, true, List, [], ◌∷◌, ◌++◌, flat_map}
+use Rattle.std.specs.Prelude.{◌≡◌, true, false, List, [], ◌∷◌, ◌++◌, flat_map, All}
 use Rattle.lv_source.specs.Views.{Seen, View, is_continuous}
 use Rattle.lv_source.specs.Views as views
 use Rattle.lv_source.specs.Summary.{leaves_latch, exposes_own}
 use Rattle.lv_source.specs.PartRules.{has_twice}
 use Rattle.lv_flat.specs.Signals.{Signals, sort_of}
-use Rattle.lv_spans.specs.Domain.{AreSpansOf}
+use Rattle.lv_spans.specs.declared.span.Span.{Span}
+use Rattle.lv_spans.specs.Domain.{is_cell, AreSpansOf}
 use Rattle.lv_extents.specs.declared.extent.Way.{Way}
 use Rattle.lv_extents.specs.declared.extent.Way.TheVariants.{Continuous, Combinational, Edge}
 use Rattle.lv_extents.specs.declared.extent.Aim.{Aim}
@@ -23,11 +24,18 @@ way_of Continuous = views.Continuous
 way_of Combinational = views.Combinational
 way_of (Edge sort place) = views.Edge (sort_of sort) place
 
+-- each has bits of one cell
+abbrev pub AreExact : Signals → List Span → Type 0
+AreExact S xs = All (λ (s : Span). is_cell S (s.signal, s.element) ≡ true) xs
+
+-- no bit is named twice, and what is written for sure stands in single cells
 pub record IsAim (S : Signals) (a : views.Aim) (x : Aim) : Type 0 where
   pub sort : sort_of x.sort ≡ a.sort
   pub bits : AreSpansOf S a.bits x.bits
   pub sure : x.sure ≡ a.sure
   pub place : x.place ≡ a.place
+  pub once : has_twice a.bits ≡ false
+  pub exact : x.sure ≡ true → AreExact S x.bits
 
 pub record IsStep (S : Signals) (e : Seen) (x : Step) : Type 0 where
   pub reads : AreSpansOf S e.reads x.reads

@@ -16,7 +16,7 @@ use std::alloc::Global;
 
 /// The value of a constant expression at a width, at least the own one, and a sign (IEEE 1364-2005, 5.4, 5.5). It names no
 /// signal, so that none need be given to evaluate it.
-pub(crate) fn constant_value(
+pub fn constant_value(
     alloc: Global,
     _signals: &[Signal],
     e: &FlatExpr,

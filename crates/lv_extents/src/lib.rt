@@ -9,5 +9,8 @@ mod run;
 mod steps;
 mod target;
 
+pub use constant::constant_value;
 pub use extent::{Aim, Extent, Step, Way};
 pub use parts::{block, continuous};
+pub use reads::{add_all, add_reads};
+pub use target::add_aims;

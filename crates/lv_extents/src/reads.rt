@@ -16,7 +16,7 @@ use std::alloc::Global;
 
 /// Adds the bits that an expression reads, and answers whether it is constant.
 #[cycle(reads)]
-pub(crate) fn add_reads(
+pub fn add_reads(
     alloc: Global,
     signals: &[Signal],
     e: &FlatExpr,
@@ -81,7 +81,7 @@ pub(crate) fn add_reads(
 
 /// Adds what expressions read, and answers whether all are constant.
 #[cycle(reads)]
-pub(crate) fn add_all(
+pub fn add_all(
     alloc: Global,
     signals: &[Signal],
     es: &[FlatExpr],

@@ -1,14 +1,16 @@
-ghost use Rattle.std.specs.Prelude.{◌≡◌, ◌≤◌, ◌+◌, ◌-◌, ◌^◌, ◌++◌, ◌∷◌, true, Some, map, IfOk, OnOk};
+ghost use Rattle.std.specs.Prelude.{◌≡◌, ◌≤◌, ◌+◌, ◌-◌, ◌^◌, ◌++◌, ◌∷◌, true, false, Some, map, IfOk, OnOk};
 ghost use Rattle.lv_source.specs.Names.{Bounds, width_of, is_signal_sort};
 ghost use Rattle.lv_source.specs.Values.{nowhere};
 ghost use Rattle.lv_source.specs.Places.{bits_of, place_by, place_bits};
 ghost use Rattle.lv_source.specs.Meaning.{bits_named, all_constant};
 ghost use Rattle.lv_source.specs.Parts.{is_declared_sort};
+ghost use Rattle.lv_source.specs.PartRules.{has_twice};
 ghost use Rattle.lv_flat.specs.Cells.{AreDistinct, all_cells};
 ghost use Rattle.lv_flat.specs.Signals.{declared, declared_all, signal_at};
 ghost use Rattle.lv_flat.specs.Judged.{good_selects, judge_select};
 ghost use Rattle.lv_lower_exprs.specs.Named.{chosen_by};
 ghost use Rattle.lv_extents.specs.Adds.{Adds, IsRun, IsFixed, AreFixed, spans_of, taken};
+ghost use Rattle.lv_extents.specs.Extents.{AreExact};
 
 use crate::constant::first_number;
 use lv_bits::NoMemory;
@@ -94,7 +96,9 @@ fn add_element(
     requires first { IsFixed (declared_all signals.now) s.now }
     requires fixed { AreFixed (declared_all signals.now) rest.now }
     requires distinct { AreDistinct (all_cells (declared_all signals.now)) }
-    ensures { OnOk result ((b : Bounds) → (signal_at (declared_all signals.now) k).array ≡ Some b → Adds (declared_all signals.now) into.old into.new (place_bits (place_by (Some b) (signal_at (declared_all signals.now) k) (map (chosen_by (declared_all signals.now)) (s.now ∷ rest.now)) nowhere))) }
+    ensures adds { OnOk result ((b : Bounds) → (signal_at (declared_all signals.now) k).array ≡ Some b → Adds (declared_all signals.now) into.old into.new (place_bits (place_by (Some b) (signal_at (declared_all signals.now) k) (map (chosen_by (declared_all signals.now)) (s.now ∷ rest.now)) nowhere))) }
+    ensures once { OnOk result ((b : Bounds) → (signal_at (declared_all signals.now) k).array ≡ Some b → has_twice (place_bits (place_by (Some b) (signal_at (declared_all signals.now) k) (map (chosen_by (declared_all signals.now)) (s.now ∷ rest.now)) nowhere)) ≡ false) }
+    ensures exact { OnOk result (AreExact (declared_all signals.now) into.old → AreExact (declared_all signals.now) into.new) }
 {
     let signal = signal_of(signals, k);
     let Some((left, right)) = signal.array else {
@@ -124,7 +128,9 @@ pub(crate) fn add_named(
     requires good { good_selects (signal_at (declared_all signals.now) k) (map (judge_select (declared_all signals.now)) ss.now) ≡ true }
     requires fixed { fixed ≡ all_constant (taken (declared_all signals.now) ss.now) }
     requires distinct { AreDistinct (all_cells (declared_all signals.now)) }
-    ensures { OnOk result (Adds (declared_all signals.now) into.old into.new (bits_named (signal_at (declared_all signals.now) k) (taken (declared_all signals.now) ss.now))) }
+    ensures adds { OnOk result (Adds (declared_all signals.now) into.old into.new (bits_named (signal_at (declared_all signals.now) k) (taken (declared_all signals.now) ss.now))) }
+    ensures once { OnOk result (has_twice (bits_named (signal_at (declared_all signals.now) k) (taken (declared_all signals.now) ss.now)) ≡ false) }
+    ensures exact { OnOk result (fixed ≡ true → AreExact (declared_all signals.now) into.old → AreExact (declared_all signals.now) into.new) }
 {
     let signal = signal_of(signals, k);
     if is_clock(signal) {

@@ -51,7 +51,7 @@ fn add_aim(
 
 /// Adds the names of a target to the aims, from left to right, and what their indices read.
 #[cycle(targets)]
-pub(crate) fn add_aims(
+pub fn add_aims(
     alloc: Global,
     signals: &[Signal],
     t: &FlatTarget,

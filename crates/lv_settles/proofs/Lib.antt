@@ -1,10 +1,10 @@
-mod Carried
+pub mod Carried
 pub mod Cells
 pub mod FlatParts
-mod FlatStatements
-mod FlatTrees
+pub mod FlatStatements
+pub mod FlatTrees
 pub mod Lists
-mod Nexts
-mod Ordered
-mod Rightness
+pub mod Nexts
+pub mod Ordered
+pub mod Rightness
 pub mod Settling

@@ -262,7 +262,7 @@ add_reads-returns-in_ok-add_named-in-Signal-clause-reads t c =
     let s = signal-same S c.args.e.now c.in-Signal.k c.in-Signal.ss c.in-Signal.is (signal-good S c.args.e.now c.requires.good c.in-Signal.k c.in-Signal.ss c.in-Signal.is).0 in
     let z = c.as_slice-ss.result.now in
     adds-as S _ _ _ _ (s.reads ∙ sym (ap (λ (y : List FlatSelect). bits_named (signal_at S c.in-Signal.k) (taken S y) ++ index_reads (taken S y)) c.as_slice-ss.ensures))
-    (adds-swap S (index_reads (taken S z)) (bits_named (signal_at S c.in-Signal.k) (taken S z)) (adds-then S c.in_ok-fixed-in-Signal.ensures.reads c.in_ok-add_named-in-Signal.ensures))
+    (adds-swap S (index_reads (taken S z)) (bits_named (signal_at S c.in-Signal.k) (taken S z)) (adds-then S c.in_ok-fixed-in-Signal.ensures.reads c.in_ok-add_named-in-Signal.ensures.adds))
 
 pub add_reads-returns-in_ok-add_named-in-Signal-clause-constant : goal.add_reads-returns-in_ok-add_named-in-Signal-clause-constant
 add_reads-returns-in_ok-add_named-in-Signal-clause-constant t c =

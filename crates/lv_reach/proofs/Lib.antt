@@ -1,0 +1,7 @@
+mod Lists
+mod Bits
+mod Spreading
+mod Started
+mod Values
+mod Sources
+mod Registered

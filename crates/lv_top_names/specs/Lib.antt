@@ -1,0 +1,3 @@
+pub mod TopNames
+pub mod Resolved
+pub mod Walking

@@ -85,7 +85,7 @@ module _ (S : Signals) (vs : List View) where
   all_of [] f = tt
   all_of (d ∷ T) f = each-join (SlotOf S vs) (slots_of vs d) (all_slots vs T) (one_of d (is_signal d) (λ h. f d (inl refl) h)) (all_of T (λ x i h. f x (inr i) h))
 
-in_signals : (S : Signals) (d : Declared) → In d S → is_signal d ≡ true → In d (signals_in S)
+pub in_signals : (S : Signals) (d : Declared) → In d S → is_signal d ≡ true → In d (signals_in S)
 in_signals [] d i h = absurd i
 in_signals (x ∷ xs) d (inl e) h = subst (λ b. In d (cond b (x ∷ filter is_signal xs) (filter is_signal xs))) (sym (ap is_signal e ∙ h)) (inl e)
 in_signals (x ∷ xs) d (inr i) h = elim (is_signal x) as (λ b. In d (cond b (x ∷ filter is_signal xs) (filter is_signal xs))) [

@@ -33,7 +33,7 @@ get-at [] i x h e = absurd (omega arith)
 get-at (y ∷ ys) zero x h e = ap Some (sym e)
 get-at (y ∷ ys) (suc i) x h e = get-at ys i x (omega arith) e
 
-view-at : (S : Signals) (ps : List FlatPart) (k : ℕ) (p : FlatPart) → slice_get ps k ≡ Some p → slice_get (flat_views S ps) k ≡ Some (flat_view S p)
+pub view-at : (S : Signals) (ps : List FlatPart) (k : ℕ) (p : FlatPart) → slice_get ps k ≡ Some p → slice_get (flat_views S ps) k ≡ Some (flat_view S p)
 view-at S [] k p e = cc
 view-at S (x ∷ xs) zero p e = ap (λ z. Some (flat_view S z)) (some_same x p e)
 view-at S (x ∷ xs) (suc k) p e = view-at S xs k p e

@@ -11,3 +11,7 @@ mod Cycles
 mod GraphMoves
 mod Through
 mod Carrying
+mod Clocking
+mod Counting
+mod Extending
+mod Putting

@@ -1,7 +1,7 @@
 -- The next nodes of registers, one after another.
 use Rattle.std.proofs.Common.{◌≡◌, ℕ, zero, suc, ◌+◌, ◌<◌, ◌≤◌, true, false, List, [], ◌∷◌, ◌++◌, length, map, take, refl, sym, ap, ◌∙◌, arith, Some}
 use Rattle.std.specs.Prelude.{slice_set, slice_index, slice_index_or}
-use Rattle.std.proofs.lemmas.List.{length-append, append-nil, take_more, get_or_default, get_or_at, length-map}
+use Rattle.std.proofs.lemmas.List.{length-append, append-nil, get_or_default, get_or_at, length-map}
 use Rattle.lv_netlist.specs.declared.node.Node.TheVariants as n
 use Rattle.lv_netlist.specs.declared.node.Register.{Register}
 use Rattle.lv_netlist.specs.Net.{Net, no_nodes, node_at, width_at, register_at, with_next}
@@ -9,33 +9,12 @@ use Rattle.lv_lower.specs.declared.slot.Kind.{Kind}
 use Rattle.lv_lower.specs.declared.slot.Kind.TheVariants as k
 use Rattle.lv_lower.specs.declared.slot.Slot.{Slot}
 use Rattle.lv_lower.specs.Started.{add_slot, net_from, slot_at}
-use Rattle.lv_lower.specs.Nexts.{next_all, held_by, held_in, with_nexts, is_held, bits_by, register_bits}
+use Rattle.lv_lower.specs.Nexts.{next_all, held_by, held_in, with_nexts, is_held}
 use Rattle.lv_flat.specs.Cells.{cell_at}
 use Rattle.lv_values.specs.Worlds.{Grows}
 use Rattle.lv_lower.specs.Started.{cell_in}
 use Rattle.lv_lower.proofs.Starting.{registers_in, registers-are, nodes-count}
 use Rattle.lv_lower.proofs.Standing.{new-node, added, a_node, stands, stands-width}
-
--- ---- the bits of registers
-
-pub bits-join : (xs ys : List Slot) → register_bits (xs ++ ys) ≡ register_bits xs + register_bits ys
-bits-join [] ys = omega arith
-bits-join (x ∷ xs) ys = let e : register_bits (xs ++ ys) ≡ register_bits xs + register_bits ys = bits-join xs ys in omega arith
-
-pub bits-more : (ss : List Slot) (i : ℕ) (s : Slot) → i < length ss → s ≡ slice_index_or ss i s → register_bits (take (i + 1) ss) ≡ register_bits (take i ss) + bits_by s.kind s.width
-bits-more ss i s h e =
-    ap register_bits (take_more ss i s h ∙ ap (λ z. take i ss ++ z ∷ []) (sym e)) ∙
-    (bits-join (take i ss) (s ∷ []) ∙ (let z : register_bits (take i ss) + (bits_by s.kind s.width + 0) ≡ register_bits (take i ss) + bits_by s.kind s.width = omega arith in z))
-
-pub held-bits : (kind : Kind) (width : ℕ) → is_held kind ≡ true → bits_by kind width ≡ width
-held-bits k.Input width h = cc
-held-bits k.Register width h = refl
-held-bits k.Zero width h = cc
-
-pub free-bits : (kind : Kind) (width : ℕ) → is_held kind ≡ false → bits_by kind width ≡ 0
-free-bits k.Input width h = refl
-free-bits k.Register width h = cc
-free-bits k.Zero width h = refl
 
 -- ---- one more next node
 

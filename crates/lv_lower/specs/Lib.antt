@@ -5,3 +5,7 @@ pub mod Asked
 pub mod Nexts
 pub mod Machines
 pub mod Carrying
+pub mod Blocks
+pub mod Bits
+pub mod Clocking
+pub mod Lowering

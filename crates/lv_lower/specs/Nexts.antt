@@ -1,5 +1,5 @@
 -- The next nodes of registers.
-use Rattle.std.specs.Prelude.{ℕ, ◌+◌, Bool, true, false, List, [], ◌∷◌, Some}
+use Rattle.std.specs.Prelude.{ℕ, Bool, true, false, List, [], ◌∷◌, Some}
 use Rattle.lv_netlist.specs.declared.node.Register.{Register}
 use Rattle.lv_netlist.specs.Net.{Net}
 use Rattle.lv_lower.specs.declared.slot.Kind.{Kind}
@@ -30,13 +30,3 @@ abbrev pub is_held : Kind → Bool
 is_held Input = false
 is_held Held = true
 is_held Zero = false
-
-abbrev pub bits_by : Kind → ℕ → ℕ
-bits_by Input width = 0
-bits_by Held width = width
-bits_by Zero width = 0
-
--- the bits of all registers together
-abbrev pub register_bits : List Slot → ℕ
-register_bits [] = 0
-register_bits (s ∷ ss) = bits_by s.kind s.width + register_bits ss

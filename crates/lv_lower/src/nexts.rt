@@ -1,34 +1,12 @@
-ghost use Rattle.std.specs.Prelude.{◌≡◌, ◌<◌, ◌≤◌, true, false, map, length, IsSome, IfSome};
+ghost use Rattle.std.specs.Prelude.{◌≡◌, ◌<◌, true, false, map, length, IsSome, IfSome};
 ghost use Rattle.lv_netlist.specs.Net.{no_nodes, node_at, width_at, register_of, with_next};
 ghost use Rattle.lv_values.specs.Worlds.{Grows};
 ghost use Rattle.lv_lower_exprs.specs.Tables.{IsTable};
 ghost use Rattle.lv_lower.specs.Started.{net_from, cell_in};
-ghost use Rattle.lv_lower.specs.Nexts.{bits_by, register_bits, with_nexts, is_held};
+ghost use Rattle.lv_lower.specs.Nexts.{with_nexts, is_held};
 
 use crate::slot::{Kind, Slot};
 use lv_netlist::Builder;
-
-/// The bits of a cell, if it is a register.
-fn bits(slot: &Slot) -> u128
-    ensures is { result ≡ bits_by slot.now.kind slot.now.width }
-    ensures most { result ≤ 4294967295 }
-{
-    match slot.kind {
-        Kind::Register => u128::from(slot.width),
-        Kind::Input | Kind::Zero => 0,
-    }
-}
-
-/// The bits of all registers together.
-pub fn register_bits(slots: &[Slot]) -> u128
-    ensures { result ≡ register_bits slots.now }
-{
-    let mut sum = 0u128;
-    for slot in slots {
-        sum += bits(slot);
-    }
-    sum
-}
 
 /// Makes the node the next of a register's cell.
 fn set_next(b: &mut Builder, slot: &Slot, k: u64, node: u64)

@@ -56,7 +56,7 @@ writes-kept (p ∷ ps) x v b h =
     let y : ℕ = x / 2 ^ bits_in ps % 2 ^ length p.bits in
     writes-kept ps x (write v p y) b (none-right (same_bit b) (place_bits p) (all_bits_of ps) h) ∙ write-kept v p y b (none-left (same_bit b) (place_bits p) (all_bits_of ps) h)
 
-applied-settles : (us : List Update) (v w : Valuation) (b : Bit) → bit_at v b ≡ bit_at w b → bit_at (applied v us) b ≡ bit_at (applied w us) b
+pub applied-settles : (us : List Update) (v w : Valuation) (b : Bit) → bit_at v b ≡ bit_at w b → bit_at (applied v us) b ≡ bit_at (applied w us) b
 applied-settles [] v w b h = h
 applied-settles (u ∷ us) v w b h = applied-settles us (write_all v u.places u.value) (write_all w u.places u.value) b (writes_settle u.places u.value v w b (inl h))
 
@@ -211,3 +211,32 @@ writes-leave S x v u b (inr h) e =
     let f = moves S (Fast u b) (LaterSpares b) (λ s t f. f.val) (fast-now u b) (fast-later u b) x (each-of (LaterSpares b)
     (flows S x).events h) s s (record { val = refl; bit = e; still = λ w. refl }) in
     f.bit ∙ sym (f.still (done S x s).valuation)
+
+-- ---- a bit that is not written
+
+-- no assignment writes it
+abbrev pub Spares : Bit → Event → Type 0
+Spares b e = (v : Valuation) → has_bit (all_bits_of (places v e.targets)) b ≡ false
+
+record Spared (b : Bit) (s t : State) : Type 0 where
+  val : s.valuation ≡ t.valuation
+  still : (w : Valuation) → bit_at (applied w s.pending) b ≡ bit_at w b
+
+module _ (b : Bit) where
+  spared-update : (ps : List Piece) (r : Reading) (e : Event) → e.targets ≡ ps → Spares b e → (s t : State) → Spared b s t → (w : Valuation) →
+      bit_at (applied w (s.pending ++ update_in ps r s.valuation ∷ [])) b ≡ bit_at w b
+  spared-update ps r e j p s t f w = ap (λ (v : Valuation). bit_at v b) (applied-more s.pending (update_in ps r s.valuation) w) ∙
+      (writes-kept (places s.valuation ps) _ (applied w s.pending) b (spared ps e s.valuation b j p) ∙ f.still w)
+
+  spared-now : (ps : List Piece) (r : Reading) (e : Event) → e.at_once ≡ true → e.targets ≡ ps → Spares b e → (s t : State) → Spared b s t → Spared b (kept_now ps r s) (now_of ps r t)
+  spared-now ps r e i j p s t f = record { val = ap (λ (v : Valuation). put_in ps r v v) f.val; still = spared-update ps r e j p s t f }
+
+  spared-later : (ps : List Piece) (r : Reading) (e : Event) → e.at_once ≡ false → e.targets ≡ ps → Spares b e → (s t : State) → Spared b s t → Spared b (later_of ps r s) (later_of ps r t)
+  spared-later ps r e i j p s t f = record { val = f.val; still = spared-update ps r e j p s t f }
+
+-- the writes of a block leave it
+pub writes-spare : (S : Signals) (x : FlatStmt) (v u : Valuation) (b : Bit) → Each (Spares b) (flow S x).events → bit_at (applied u (writes_from S x v)) b ≡ bit_at u b
+unfolding keeps_writes executes flow
+writes-spare S x v u b h =
+    let s : State = record { valuation = v; pending = [] } in
+    (moves S (Spared b) (Spares b) (λ s t f. f.val) (spared-now b) (spared-later b) x h s s (record { val = refl; still = λ w. refl })).still u

@@ -1,0 +1,3 @@
+mod Events
+mod Unmixed
+pub mod Overlays

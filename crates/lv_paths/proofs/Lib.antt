@@ -1,0 +1,11 @@
+mod Labels
+mod Lists
+mod Masks
+mod Opening
+mod Judging
+mod Sequences
+mod Branches
+mod Trees
+mod Doubles
+mod Written
+mod Whole

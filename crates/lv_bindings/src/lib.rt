@@ -16,6 +16,7 @@ pub use around::Around;
 pub use group::Group;
 pub use groups::Groups;
 pub use order::Standing;
+pub use path::{path_of, put_dot, put_spelled};
 pub use scope::{Named, name_scope};
 pub use table::{Binding, Table};
 pub use unique::once;

@@ -37,6 +37,19 @@ impl Drop for Standing {
     }
 }
 
+impl Standing {
+    pub fn into_signal(self) -> Signal
+        ensures { result ≡ self.signal }
+    {
+        let Standing {
+            place: _,
+            number: _,
+            signal,
+        } = self;
+        signal
+    }
+}
+
 /// The group of a declaration, if its signal stands there.
 fn group_at(groups: &Groups, index: usize) -> Option<Group>
     ensures { (ds : List s.Declaration) (d : s.Declaration) → AreGrouped ds groups.now → slice_get ds index ≡ Some d →

@@ -23,7 +23,7 @@ fn is_simple(bytes: &[u8]) -> bool
 }
 
 /// A name as it stands in a path.
-fn put_spelled(path: &mut Vec<u8>, name: &[u8]) -> Result<(), NoMemory>
+pub fn put_spelled(path: &mut Vec<u8>, name: &[u8]) -> Result<(), NoMemory>
     ensures { OnOk result (path.new.items ≡ path.old.items ++ names.spelled name.now) }
 {
     if is_simple(name) {
@@ -37,7 +37,7 @@ fn put_spelled(path: &mut Vec<u8>, name: &[u8]) -> Result<(), NoMemory>
 }
 
 /// What stands between the path of a scope and a name in it.
-fn put_dot(path: &mut Vec<u8>) -> Result<(), NoMemory>
+pub fn put_dot(path: &mut Vec<u8>) -> Result<(), NoMemory>
     ensures { OnOk result ((name : names.Name) → names.below path.old.items name ≡ path.new.items ++ name) }
 {
     if path.is_empty() {
@@ -48,7 +48,7 @@ fn put_dot(path: &mut Vec<u8>) -> Result<(), NoMemory>
 }
 
 /// The path of a name below that of its scope.
-pub(crate) fn path_of(alloc: Global, scope: &Text, name: &Text) -> Result<Text, NoMemory>
+pub fn path_of(alloc: Global, scope: &Text, name: &Text) -> Result<Text, NoMemory>
     ensures { IfOk result (λ t. t ≡ names.below scope.now (names.spelled name.now)) }
 {
     let mut path = Vec::from_slice(alloc, scope.bytes())?;

@@ -33,6 +33,15 @@ impl Drop for Named {
     }
 }
 
+impl Named {
+    pub fn into_parts(self) -> (Table, Vec<Standing>)
+        ensures { result ≡ (self.table, self.signals) }
+    {
+        let Named { table, signals } = self;
+        (table, signals)
+    }
+}
+
 /// What the names of a scope stand for, and its signals and clocks in the order of their places, numbered from `first` on
 /// (IEEE 1364-2005, sections 12.2 and 12.3).
 pub fn name_scope(

@@ -29,7 +29,7 @@ use Rattle.lv_symbols.specs.declared.symbol.Symbol.{Symbol}
 use Rattle.lv_symbols.specs.declared.symbol.Symbol.TheVariants as y
 use Rattle.lv_symbols.specs.declared.symbol.SymbolError.{SymbolError}
 use Rattle.lv_symbols.specs.declared.symbol.SymbolError.TheVariants as e
-use Rattle.lv_symbols.specs.Making.{signal_symbol, symbol_of, given_faults, IsToldOf, parameters_in}
+use Rattle.lv_symbols.specs.Making.{signal_symbol, symbol_of, given_faults, IsSoundHere, IsToldOf, parameters_in}
 use Rattle.lv_symbols.specs.Answers.{ranges_faults, AreBounds, AreBoundsTold, AreElements, both_allowed, both_sites, IsSignal, IsSignalTold, IsSignalAnswer, IsSet, IsNotSet, IsSetTold, value_faults, names_behind, IsMade, IsNotMade}
 
 -- ---- what is clean has no faults
@@ -54,15 +54,19 @@ clean_both early ss ts h k = record { sound = sound-both early ss ts h.sound k.s
 
 -- ---- parameters
 
-pub given_told : (here outside : Here) (range : Option Range) (own value : Expr) (place : ℕ) (z : ConstError) → IsSound here here range own →
+given_fault : (here outside : Here) (range : Option Range) (own value : Expr) (place : ℕ) (z : ConstError) → IsSound here here range own →
     IsParameterFault here outside range value place z → Contains (value_faults here outside range (Some value)) z
-given_told here outside range own value place z h k =
+given_fault here outside range own value place z h k =
     let a : map x.Range (place_if (not (is_range here.names true range)) place) ≡ [] = ap (λ b. map x.Range (place_if (not b) place)) h.allowed in
     let b : flat_map (all_faults here.early) (range_sites here.names range) ≡ [] =
     none_all here.early (range_sites here.names range) h.range_clean.sound.none h.range_clean.divides.none in
     subst (λ zs. Contains (zs ++ flat_map (all_faults outside.early) (value_sites here outside range value)) z) b
     (subst (λ zs. Contains (zs ++ (flat_map (all_faults here.early) (range_sites here.names range) ++
     flat_map (all_faults outside.early) (value_sites here outside range value))) z) a k.told)
+
+pub given_told : (here outside : Here) (range : Option Range) (own value : Expr) (place : ℕ) (z : ConstError) → IsSound here here range own →
+    IsParameterFault here outside range value place z → Contains (value_faults here outside range (Some value)) z × IsSound here here range own
+given_told here outside range own value place z h k = (given_fault here outside range own value place z h k, h)
 
 pub set_made : (old there new : List Entry) (name : Ident) (local signed : Bool) (range : Option Range) (value : Expr) (given : Option Expr) →
     IsSet old there new name signed range value given →
@@ -86,13 +90,20 @@ same_faults : (here outside : Here) (name : Ident) (local signed : Bool) (range 
 same_faults here outside name local signed range value None = refl
 same_faults here outside name local signed range value (Some v) = refl
 
+sound_as : (here : Here) (name : Ident) (local signed : Bool) (range : Option Range) (value : Expr) → IsSound here here range value →
+    IsSoundHere here (record { name = name; thing = Parameter local signed range value })
+sound_as here name local signed range value h = record {
+  allowed = ap (λ b. place_if (not b) name.place) h.allowed;
+  clean = clean_both here.early (range_sites here.names range) (value_sites here here range value) h.range_clean h.value_clean;
+}
+
 told_as : (here outside : Here) (name : Ident) (local signed : Bool) (range : Option Range) (value : Expr) (given : Option Expr) (z : SymbolError) →
     IsSetTold here outside range value given name.place z → IsToldOf here outside given (record { name = name; thing = Parameter local signed range value }) z
 told_as here outside name local signed range value given (e.Own z) h =
     subst (λ zs. Contains (map x.Range (place_if (not (is_range here.names true range)) name.place) ++ zs) z)
     (sym (flat-join (all_faults here.early) (range_sites here.names range) (value_sites here here range value))) h
 told_as here outside name local signed range value given (e.Given z) h =
-    subst (λ zs. Contains zs z) (same_faults here outside name local signed range value given) h
+    (subst (λ zs. Contains zs z) (same_faults here outside name local signed range value given) h.0, sound_as here name local signed range value h.1)
 told_as here outside name local signed range value given e.NoMemory h = tt
 
 pub set_told : (old there : List Entry) (name : Ident) (local signed : Bool) (range : Option Range) (value : Expr) (given : Option Expr) (z : SymbolError) →

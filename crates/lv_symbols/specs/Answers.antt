@@ -98,7 +98,7 @@ value_faults here outside range (Some value) = flat_map (all_faults outside.earl
 
 abbrev pub IsSetTold : Here → Here → Option Range → Expr → Option Expr → ℕ → SymbolError → Type 0
 IsSetTold here outside range value given place (e.Own y) = Contains (parameter_faults here here range value place) y
-IsSetTold here outside range value given place (e.Given y) = Contains (value_faults here outside range given) y
+IsSetTold here outside range value given place (e.Given y) = Contains (value_faults here outside range given) y × IsSound here here range value
 IsSetTold here outside range value given place e.NoMemory = ⊤
 
 pub record IsNotSet (old there : List Entry) (range : Option Range) (value : Expr) (given : Option Expr) (place : ℕ) (y : SymbolError) : Type 0 where

@@ -68,10 +68,10 @@ abbrev pub IsGivenClean : Here → Here → Option Range → Option Expr → Typ
 IsGivenClean here outside range None = ⊤
 IsGivenClean here outside range (Some value) = AreClean outside.early (value_sites here outside range value)
 
--- what is told of it
+-- what is told of it; of a value that an instance gives it, where nothing can be told of itself
 abbrev pub IsToldOf : Here → Here → Option Expr → Declaration → SymbolError → Type 0
 IsToldOf here outside given d (e.Own y) = Contains (own_faults here d) y
-IsToldOf here outside given d (e.Given y) = Contains (given_faults here outside given d) y
+IsToldOf here outside given d (e.Given y) = Contains (given_faults here outside given d) y × IsSoundHere here d
 IsToldOf here outside given d e.NoMemory = ⊤
 
 -- how many of them are parameters

@@ -1,0 +1,14 @@
+pub mod CleanLaws
+pub mod SameReads
+pub mod Roots
+pub mod LinkedOnce
+pub mod ScopeNames
+pub mod Behind
+pub mod SettingLaws
+pub mod LateSites
+pub mod Groups
+pub mod LateScope
+pub mod Sited
+pub mod LateFaults
+pub mod ValueLaws
+pub mod GivenLaws

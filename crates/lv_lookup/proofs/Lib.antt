@@ -1,0 +1,5 @@
+mod Bound
+mod Kept
+mod Named
+mod Outward
+mod Places

@@ -1,0 +1,7 @@
+mod Directed
+mod Fitting
+mod Lists
+mod Numbered
+mod PortLaws
+mod Tabled
+mod WholeLaws

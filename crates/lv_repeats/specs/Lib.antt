@@ -1,0 +1,4 @@
+pub mod Directions
+pub mod Named
+pub mod Pairs
+pub mod Whole

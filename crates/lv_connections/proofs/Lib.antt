@@ -1,0 +1,5 @@
+pub mod PortLaws
+pub mod JoinLaws
+pub mod LoopLaws
+pub mod WholeLaws
+pub mod BoundLaws

@@ -1,0 +1,5 @@
+pub mod Counting
+pub mod Growing
+pub mod Serving
+pub mod Telling
+pub mod Walking

@@ -1,0 +1,5 @@
+pub mod Counts
+pub mod Errors
+pub mod Items
+pub mod Scenes
+pub mod Surveys

@@ -1,3 +1,5 @@
+ghost use Rattle.std.specs.Prelude.{◌≡◌};
+
 use crate::below::Below;
 
 /// What the items of a scope come to.
@@ -22,5 +24,20 @@ impl<'a> Drop for Survey<'a> {
         } = self;
         drop(children);
         drop(ends);
+    }
+}
+
+impl<'a> Survey<'a> {
+    /// What stands below it, and how many of these there are up to and with each item.
+    pub fn into_parts(self) -> (Vec<Below<'a>>, Vec<usize>)
+        ensures { result ≡ (self.entry.children, self.entry.ends) }
+    {
+        let Survey {
+            children,
+            ends,
+            turns: _,
+            nodes: _,
+        } = self;
+        (children, ends)
     }
 }

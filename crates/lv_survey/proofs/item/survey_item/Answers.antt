@@ -22,8 +22,8 @@ returns-in-Err-kids-clause-wrong g c =
     record {
       at = λ source s w p. kids_not_grown source s (counted c.args.item.now) c.args.found.now c.args.room c.in-Err-kids.error
           (subst (λ n. AreNoKids n source s (counted c.args.item.now) c.in-Err-kids.error) most
-          (c.in-Err-kids.ensures.wrong.at source s w (moved-at (declared_all c.args.signals.now) (g.B.Bindings.numbers c.args.bindings.now) (g.B.Indices.indices c.args.bindings.now) c.args.all.now
-          c.args.early.now c.size_left.new.all c.size_left.new.early (here_at s c.args.item.now.before) c.in-Ok.ensures.all c.in-Ok.ensures.early p)));
+          (c.in-Err-kids.ensures.wrong.at source s w (moved-at (declared_all c.args.signals.now) (g.B.Bindings.numbers c.args.bindings.now)
+          (g.B.Indices.indices c.args.bindings.now) c.args.all.now c.args.early.now c.size_left.new.all c.size_left.new.early (here_at s c.args.item.now.before) c.in-Ok.ensures.all c.in-Ok.ensures.early p)));
     }
 
 pub returns-in-Ok-kids-clause-list : goal.returns-in-Ok-kids-clause-list
@@ -44,7 +44,7 @@ returns-in-Ok-kids-clause-right g c = on_ok_weaker c.put_item.result
           is_grown c.args.number c.args.item.now.before c.as_slice.result.now c.in-Ok.left c.args.found.now c.put_item.new.found h source s c.args.item.now.item.now
           ((c.in-Ok.ensures.right.at (here_at s c.args.item.now.before) p).right s refl)
           (subst (AreKids source s (counted c.args.item.now)) (sym c.as_slice.ensures.value)
-          (c.in-Ok-kids.ensures.right.at source s w (moved-at (declared_all c.args.signals.now) (g.B.Bindings.numbers c.args.bindings.now) (g.B.Indices.indices c.args.bindings.now)
-          c.args.all.now c.args.early.now c.size_left.new.all c.size_left.new.early (here_at s c.args.item.now.before) c.in-Ok.ensures.all c.in-Ok.ensures.early p)));
+          (c.in-Ok-kids.ensures.right.at source s w (moved-at (declared_all c.args.signals.now) (g.B.Bindings.numbers c.args.bindings.now)
+          (g.B.Indices.indices c.args.bindings.now) c.args.all.now c.args.early.now c.size_left.new.all c.size_left.new.early (here_at s c.args.item.now.before) c.in-Ok.ensures.all c.in-Ok.ensures.early p)));
     })
     c.put_item.ensures.right

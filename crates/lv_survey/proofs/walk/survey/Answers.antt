@@ -18,7 +18,9 @@ loop-item-preserved g c =
     let items = c.args.items.now in
     let i = c.loop-item.item-index in
     let x = c.item-item.result in
-    let there = scene c.args.modules.now c.args.around.now (declared_all c.args.signals.now) (g.B.Bindings.numbers c.args.bindings.now) (g.B.Indices.indices c.args.bindings.now) c.args.all.now in
+    let find = g.B.Bindings.numbers c.args.bindings.now in
+    let indices = g.B.Indices.indices c.args.bindings.now in
+    let there = scene c.args.modules.now c.args.around.now (declared_all c.args.signals.now) find indices c.args.all.now in
     let early : c.extend.new.early ≡ take (slice_index counts x.before) entries = is_there c.extend.result (sym c.is_err.ensures.value ∙ c.if-is_err.false) c.extend.ensures in
     record {
       same = c.in_default.ensures.all ∙ c.loop-item.invariant.same;
@@ -28,8 +30,9 @@ loop-item-preserved g c =
       each = record {
         at = λ source s h. subst (λ zs. IsSoFar c.args.turns c.args.nodes source s zs c.survey_item.new.found)
             (sym (items_next there entries counts items source s h i x c.loop-item-test.true c.item-item.is))
-            (so_far_more c.args.turns c.args.nodes source s (map counted (take i items)) (counted x) c.loop-item.found c.survey_item.new.found (c.loop-item.invariant.each.at source s h)
-            (c.in_default.ensures.right.at source s h.within (moved-at (declared_all c.args.signals.now) (g.B.Bindings.numbers c.args.bindings.now) (g.B.Indices.indices c.args.bindings.now)
+            (so_far_more c.args.turns c.args.nodes source s (map counted (take i items)) (counted x) c.loop-item.found c.survey_item.new.found
+            (c.loop-item.invariant.each.at source s h)
+            (c.in_default.ensures.right.at source s h.within (moved-at (declared_all c.args.signals.now) find indices
             c.args.all.now c.extend.new.early c.loop-item.all c.extend.new.early (here_at s x.before) c.loop-item.invariant.same refl
             (place_there there entries counts items source s h i x c.loop-item-test.true c.item-item.is c.extend.new.early early))));
       };
@@ -42,13 +45,16 @@ returns-in-Err-clause-wrong g c =
     let items = c.args.items.now in
     let i = c.loop-item.item-index in
     let x = c.item-item.result in
-    let there = scene c.args.modules.now c.args.around.now (declared_all c.args.signals.now) (g.B.Bindings.numbers c.args.bindings.now) (g.B.Indices.indices c.args.bindings.now) c.args.all.now in
+    let find = g.B.Bindings.numbers c.args.bindings.now in
+    let indices = g.B.Indices.indices c.args.bindings.now in
+    let there = scene c.args.modules.now c.args.around.now (declared_all c.args.signals.now) find indices c.args.all.now in
     let early : c.extend.new.early ≡ take (slice_index counts x.before) entries =
     is_there c.extend.result (sym c.is_err.ensures.value ∙ c.if-is_err.false) c.extend.ensures in
     record {
-      at = λ source s h. refused c.args.turns c.args.nodes source s (map counted (take i items)) (counted x) c.loop-item.found c.survey_item.new.found (c.loop-item.invariant.each.at source s h) c.args.room
-          (map counted (drop (i + 1) items)) (items_rest there entries counts items source s h i x c.loop-item-test.true c.item-item.is) c.in-Err.error
-          (c.in-Err.ensures.wrong.at source s h.within (moved-at (declared_all c.args.signals.now) (g.B.Bindings.numbers c.args.bindings.now) (g.B.Indices.indices c.args.bindings.now)
+      at = λ source s h. refused c.args.turns c.args.nodes source s (map counted (take i items)) (counted x) c.loop-item.found c.survey_item.new.found
+          (c.loop-item.invariant.each.at source s h) c.args.room (map counted (drop (i + 1) items))
+          (items_rest there entries counts items source s h i x c.loop-item-test.true c.item-item.is) c.in-Err.error
+          (c.in-Err.ensures.wrong.at source s h.within (moved-at (declared_all c.args.signals.now) find indices
           c.args.all.now c.extend.new.early c.loop-item.all c.extend.new.early (here_at s x.before) c.loop-item.invariant.same refl
           (place_there there entries counts items source s h i x c.loop-item-test.true c.item-item.is c.extend.new.early early)));
     }

@@ -1,0 +1,6 @@
+pub mod AddLaws
+pub mod AssignLaws
+pub mod BlockLaws
+pub mod ItemLaws
+pub mod NetLaws
+pub mod Tellings

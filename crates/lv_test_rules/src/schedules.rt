@@ -16,7 +16,7 @@ pub(crate) const BLOCK: Way = Way::Combinational;
 
 pub(crate) const CLOCKED: Way = Way::Edge(Sort::Clock, 0);
 
-fn spans(alloc: Global, bits: &[Bits]) -> Result<Items<Span>, Fail> {
+pub(crate) fn spans(alloc: Global, bits: &[Bits]) -> Result<Items<Span>, Fail> {
     let mut list = Items::new(alloc);
     for b in bits {
         list.push(Span {
